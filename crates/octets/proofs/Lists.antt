@@ -1,0 +1,64 @@
+-- Laws about octet lists, one octet at a time: what a loop over a list cites.
+-- Assumes nothing.
+use Prim.Native.Nat.{ℕ, zero, suc, _<_, _≤_, _+_}
+use native.Mathlib.Numerals.{add-one}
+use native.Mathlib.Omega.{arith}
+use mathlib.Core.Path.{_≡_, refl}
+use mathlib.Core.Bool.{Bool, true, false}
+use mathlib.Core.List.{List, [], _∷_}
+use borrow.Author.Tests.{ltb-true, ltb-false, eq-eqb, ne-eqb}
+use lib.Dec.{ltb, eqb}
+use lib.ListN.{length, drop, getD, drop-of-length-le}
+use lib.Seq.{drop-cons}
+use Rattle.laws.specs.Choice.{choose, both}
+use Rattle.octets.specs.declared.Purpose.{Purpose}
+use Rattle.octets.specs.Octets.{category, tag}
+use Rattle.octets.specs.Lists.{octetFault, firstFault, opens, listFault, untilCategory, groupEnds}
+
+pub opens-none : (s : List ℕ) → length s ≡ 0 → opens s ≡ false
+opens-none [] h = refl
+opens-none (b ∷ s) h = absurd (let z : ⊥ = omega arith in z)
+
+pub opens-some : (s : List ℕ) → (length s ≡ 0 → ⊥) → opens s ≡ both (category (getD s 0 0)) (eqb (tag (getD s 0 0)) 1)
+opens-some [] h = absurd (h refl)
+opens-some (b ∷ s) h = refl
+
+-- an accepted list has 64 octets at most
+short-by : (p : Purpose) (s : List ℕ) (t : Bool) → ltb 64 (length s) ≡ t → choose t 4 (choose (opens s) (firstFault p (drop 1 s)) 5) ≡ 0 → length s ≤ 64
+unfolding choose
+short-by p s true l e = omega (arith, e)
+short-by p s false l e = ltb-false 64 (length s) l
+
+pub accepted-short : (p : Purpose) (s : List ℕ) → listFault p s ≡ 0 → length s ≤ 64
+accepted-short p s e = short-by p s (ltb 64 (length s)) refl e
+
+module _ (p : Purpose) (s : List ℕ) (i : ℕ) where
+  pub fault-here : i < length s → (octetFault p (getD s i 0) ≡ 0 → ⊥) → firstFault p (drop i s) ≡ octetFault p (getD s i 0)
+  unfolding firstFault choose
+  fault-here h n = simp (drop-cons s i 0 h, ne-eqb _ _ n)
+
+  pub fault-on : i < length s → octetFault p (getD s i 0) ≡ 0 → firstFault p (drop i s) ≡ firstFault p (drop (i + 1) s)
+  unfolding firstFault choose
+  fault-on h e = simp (drop-cons s i 0 h, eq-eqb _ _ e, add-one)
+
+  pub fault-end : length s ≤ i → firstFault p (drop i s) ≡ 0
+  unfolding firstFault
+  fault-end h = simp (drop-of-length-le s h)
+
+-- where a group ends, by whether an octet stands there
+module _ (s : List ℕ) (i : ℕ) where
+  ends-by : (t : Bool) → ltb i (length s) ≡ t → choose t (category (getD s i 0)) true ≡ true → untilCategory (drop i s) ≡ 0
+  unfolding choose untilCategory
+  ends-by true l e = simp (drop-cons s i 0 (ltb-true i (length s) l), e)
+  ends-by false l e = simp (drop-of-length-le s (ltb-false i (length s) l))
+
+  on-by : (t : Bool) → ltb i (length s) ≡ t → choose t (category (getD s i 0)) true ≡ false → (i < length s) × (untilCategory (drop i s) ≡ suc (untilCategory (drop (i + 1) s)))
+  unfolding choose untilCategory
+  on-by true l e = let h = ltb-true i (length s) l in (h, simp (drop-cons s i 0 h, e, add-one))
+  on-by false l e = let z : _≡_ {A = ℕ} 0 1 = cc in absurd (let w : ⊥ = omega arith in w)
+
+  pub group-end : groupEnds s i ≡ true → untilCategory (drop i s) ≡ 0
+  group-end e = ends-by (ltb i (length s)) refl e
+
+  pub group-on : groupEnds s i ≡ false → (i < length s) × (untilCategory (drop i s) ≡ suc (untilCategory (drop (i + 1) s)))
+  group-on e = on-by (ltb i (length s)) refl e

@@ -1,0 +1,49 @@
+-- Document 01: which octet lists are accepted, and where a group ends.
+use Prim.Native.Nat.{ℕ, suc, _+_}
+use mathlib.Core.Bool.{Bool, true, false}
+use mathlib.Core.List.{List, [], _∷_}
+use lib.ListN.{length, drop, getD}
+use lib.Dec.{ltb, eqb}
+use Rattle.laws.specs.Choice.{choose, both}
+use Rattle.octets.specs.declared.Kind.{Kind}
+use Rattle.octets.specs.declared.Kind.the-variants.{Ci, Menu}
+use Rattle.octets.specs.declared.Purpose.{Purpose}
+use Rattle.octets.specs.declared.Purpose.the-variants.{Reading, Writing}
+use Rattle.octets.specs.Octets.{category, tag, bad}
+
+-- 'Bits on the line': a later category octet. In a menu "category octets with a tag other than 0", in CI none; 12 is "in writing only"
+abbrev pub categoryFault : Purpose → ℕ → ℕ
+categoryFault Reading t = 0
+categoryFault (Writing Menu) t = choose (eqb t 0) 12 0
+categoryFault (Writing Ci) t = 12
+
+-- one octet behind the first: the number of its refusal, or 0
+abbrev pub octetFault : Purpose → ℕ → ℕ
+octetFault p b = choose (bad b) 3 (choose (category b) (categoryFault p (tag b)) 0)
+
+-- the first number, or where that is 0 the second
+abbrev pub before : ℕ → ℕ → ℕ
+before f g = choose (eqb f 0) g f
+
+-- "at the first bad octet 3 or 12"
+unfoldable pub firstFault : Purpose → List ℕ → ℕ
+firstFault p [] = 0
+firstFault p (b ∷ bs) = before (octetFault p b) (firstFault p bs)
+
+-- refusal 5, "first octet not tag 1 with b4 = 0, no octets"
+abbrev pub opens : List ℕ → Bool
+opens [] = false
+opens (b ∷ bs) = both (category b) (eqb (tag b) 1)
+
+-- "reading or writing octets 4, 5, then at the first bad octet 3 or 12": the number of the refusal, or 0
+abbrev pub listFault : Purpose → List ℕ → ℕ
+listFault p octets = choose (ltb 64 (length octets)) 4 (choose (opens octets) (firstFault p (drop 1 octets)) 5)
+
+-- 'Octets of the menu': the octets "up to the next octet with b4 = 0"
+unfoldable pub untilCategory : List ℕ → ℕ
+untilCategory [] = 0
+untilCategory (b ∷ bs) = choose (category b) 0 (suc (untilCategory bs))
+
+-- at this place stands no octet, or one with b4 = 0
+abbrev pub groupEnds : List ℕ → ℕ → Bool
+groupEnds octets i = choose (ltb i (length octets)) (category (getD octets i 0)) true

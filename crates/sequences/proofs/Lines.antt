@@ -1,0 +1,124 @@
+-- Laws about what stands on the line: lengths, one octet or one copy more, and ten bits as one number.
+-- Assumes nothing.
+use Prim.Native.Nat.{ℕ, zero, suc, _<_, _≤_, _+_, _*_, _-_}
+use native.Mathlib.Nat.{zero-mul, suc-mul, mul-le-mul-right}
+use native.Mathlib.Numerals.{add-one}
+use native.Mathlib.Omega.{arith}
+use mathlib.Core.Path.{_≡_, refl, sym, ap, _∙_}
+use mathlib.Core.Bool.{Bool}
+use mathlib.Core.List.{List, [], _∷_, _++_, append-assoc, append-nil}
+use lib.Dec.{lit<}
+use lib.ListN.{length, take, drop, getD, length-append, length-take}
+use lib.Seq.{drop-cons, length-take-le, take-add}
+use borrow.Rule.Slice.PartMut.{putMid}
+use Rattle.laws.specs.Choice.{both}
+use Rattle.laws.specs.Front.{front}
+use Rattle.laws.specs.Tests.{allBelow, sameList}
+use Rattle.laws.proofs.Computed.{below, same-list}
+use Rattle.laws.proofs.Rest.{front-length, lent-length, front-then}
+use Rattle.octets.specs.declared.Kind.{Kind}
+use Rattle.octets.specs.declared.Kind.the-variants.{Ci, Menu}
+use Rattle.sequences.specs.Line.{framed, framedAll, tenOnes, sync, sequence, copies, cj}
+use Rattle.sequences.specs.Tens.{tenBits, syncTen, octetTen}
+
+-- ten bits as one number
+ten-ones : tenBits 1023 ≡ tenOnes
+unfolding tenBits
+ten-ones = refl
+
+ten-sync : (kind : Kind) → tenBits (syncTen kind) ≡ sync kind
+unfolding tenBits
+ten-sync Ci = refl
+ten-sync Menu = refl
+
+abbrev tenIsFramed : ℕ → Bool
+tenIsFramed b = sameList (tenBits (octetTen b)) (framed b)
+
+pub sync-small : (kind : Kind) → syncTen kind < 1024
+sync-small Ci = lit< tt
+sync-small Menu = lit< tt
+
+pub ten-octet : (b : ℕ) → b < 256 → tenBits (octetTen b) ≡ framed b
+unfolding tenBits framed allBelow sameList both
+ten-octet b h = same-list (tenBits (octetTen b)) (framed b) (below tenIsFramed 256 tt b h)
+
+pub preambled : (kind : Kind) (octets : List ℕ) (v : ℕ) → v ≡ syncTen kind → (tenBits 1023 ++ tenBits v) ++ framedAll octets ≡ sequence kind octets
+unfolding sequence
+preambled kind octets v e = ap (λ (l : List ℕ). tenBits 1023 ++ l ++ framedAll octets) (ap tenBits e ∙ ten-sync kind) ∙ ap (λ (l : List ℕ). l ++ sync kind ++ framedAll octets) ten-ones
+
+-- lengths
+pub ten-length : (v : ℕ) → length (tenBits v) ≡ 10
+unfolding tenBits
+ten-length v = refl
+
+pub framed-length : (octets : List ℕ) → length (framedAll octets) ≡ 10 * length octets
+unfolding framedAll framed
+framed-length [] = refl
+framed-length (b ∷ octets) = omega (arith, framed-length octets)
+
+pub sequence-length : (kind : Kind) (octets : List ℕ) → length (sequence kind octets) ≡ 20 + 10 * length octets
+unfolding sequence
+sequence-length Ci octets = omega (arith, framed-length octets)
+sequence-length Menu octets = omega (arith, framed-length octets)
+
+pub cj-length : length cj ≡ 30
+unfolding cj
+cj-length = framed-length (0 ∷ 0 ∷ 0 ∷ [])
+
+-- one more, behind what stands already
+pub framed-append : (a b : List ℕ) → framedAll (a ++ b) ≡ framedAll a ++ framedAll b
+unfolding framedAll
+framed-append [] b = refl
+framed-append (x ∷ a) b = ap (λ (l : List ℕ). framed x ++ l) (framed-append a b) ∙ sym (append-assoc (framed x) (framedAll a) (framedAll b))
+
+pub framed-join : (octets : List ℕ) (i r : ℕ) → framedAll (take (i + r) octets) ≡ framedAll (take i octets) ++ framedAll (take r (drop i octets))
+framed-join octets i r = rw take-add (framed-append (take i octets) (take r (drop i octets)))
+
+pub framed-one : (octets : List ℕ) (i : ℕ) → i < length octets → getD octets i 0 < 256 → tenBits (octetTen (getD octets i 0)) ≡ framedAll (take 1 (drop i octets))
+unfolding framedAll
+framed-one octets i h b = ten-octet (getD octets i 0) b ∙ sym (append-nil (framed (getD octets i 0))) ∙ rw (drop-cons octets i 0 h)
+
+-- the first i octets stand at the front of the buffer, and a writer is lent what lies behind them
+module _ (octets x xs : List ℕ) (i : ℕ) (room : 10 * length octets ≤ length x) (within : i ≤ length octets) (e : xs ≡ front (framedAll (take i octets)) x) where
+  pub done-length : 10 * i ≡ length (framedAll (take i octets))
+  done-length = omega (arith, framed-length (take i octets), length-take-le i octets within)
+
+  pub out-length : length xs ≡ length x
+  out-length = ap length e ∙ front-length (framedAll (take i octets)) x (omega (arith, done-length))
+
+  pub rest-length : length (take (length xs - 10 * i) (drop (10 * i) xs)) ≡ length x - 10 * i
+  rest-length = lent-length (framedAll (take i octets)) x xs (10 * i) done-length (omega arith) e
+
+  pub framed-more : (r : ℕ) (ys : List ℕ) → ys ≡ front (framedAll (take r (drop i octets))) (take (length xs - 10 * i) (drop (10 * i) xs))
+      → putMid (10 * i) (length xs - 10 * i) xs ys ≡ front (framedAll (take (i + r) octets)) x
+  framed-more r ys f =
+      front-then (framedAll (take i octets)) x xs (10 * i) done-length (omega arith) e (framedAll (take r (drop i octets))) ys f
+      ∙ ap (λ (g : List ℕ). front g x) (sym (framed-join octets i r))
+
+-- copies: how long they are, and one more behind the others
+pub copies-length : (n : ℕ) (line : List ℕ) → length (copies n line) ≡ n * length line
+unfolding copies
+copies-length zero line = sym (zero-mul (length line))
+copies-length (suc n) line = omega (arith, length-append line (copies n line), copies-length n line, suc-mul n (length line))
+
+copies-turn : (n : ℕ) (line : List ℕ) → line ++ copies n line ≡ copies n line ++ line
+unfolding copies
+copies-turn zero line = append-nil line
+copies-turn (suc n) line = ap (λ (l : List ℕ). line ++ l) (copies-turn n line) ∙ sym (append-assoc line (copies n line) line)
+
+pub copies-more : (n : ℕ) (line : List ℕ) → copies (n + 1) line ≡ copies n line ++ line
+unfolding copies
+copies-more n line = rw add-one (copies-turn n line)
+
+pub copies-more-length : (n : ℕ) (line : List ℕ) → length (copies (n + 1) line) ≡ length (copies n line) + length line
+copies-more-length n line = ap length (copies-more n line) ∙ length-append (copies n line) line
+
+pub copies-within : (k n : ℕ) (line : List ℕ) → k ≤ n → length (copies k line) ≤ length (copies n line)
+copies-within k n line h = omega (arith, copies-length k line, copies-length n line, mul-le-mul-right (length line) h)
+
+-- what the writer counts: at most 65,535 copies of at most 660 bits
+pub line-length : (kind : Kind) (octets : List ℕ) (n : ℕ) → length (copies n (sequence kind octets)) ≡ n * (20 + 10 * length octets)
+line-length kind octets n = copies-length n (sequence kind octets) ∙ ap (λ (k : ℕ). n * k) (sequence-length kind octets)
+
+pub line-small : (octets : List ℕ) (n : ℕ) → length octets ≤ 64 → n ≤ 65535 → n * (20 + 10 * length octets) ≤ 43253100
+line-small octets n h k = omega (arith, mul-le-mul-right (20 + 10 * length octets) k)

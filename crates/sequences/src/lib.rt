@@ -1,0 +1,134 @@
+// Bits on the line: sequences, copies of them, and CJ, written into a lent buffer of bytes that are 0 or 1.
+use octets::Kind;
+use octets::Purpose;
+use octets::Refusal;
+use octets::Verdict;
+ghost use mathlib.Core.Path.{_≡_};
+ghost use Prim.Native.Nat.{suc, _+_, _*_, _<_, _≤_};
+ghost use lib.ListN.{length, take, drop};
+ghost use Rattle.laws.specs.Front.{front};
+ghost use Rattle.octets.specs.Lists.{untilCategory};
+ghost use Rattle.sequences.specs.Line.{framedAll, sequence, copies};
+ghost use Rattle.sequences.specs.Tens.{tenBits, syncTen, octetTen};
+ghost use Rattle.sequences.specs.Writing.{written, writtenCj, Meets, Grouped};
+
+// What a call of the writer answers: the number of bits written, or why nothing was.
+pub enum Wrote {
+    Bits(usize),
+    Refused(Refusal),
+}
+
+// Ten bits, the lowest first.
+fn write_ten(out: &mut [u8], v: u16)
+    requires { ⌜ (10 ≤ length (now out)) × (v < 1024) ⌝ }
+    ensures { λ _. ⌜ now (out .exit) ≡ front (tenBits v) (now (out .entry)) ⌝ }
+{
+    out[0] = (v % 2) as u8;
+    out[1] = (v / 2 % 2) as u8;
+    out[2] = (v / 4 % 2) as u8;
+    out[3] = (v / 8 % 2) as u8;
+    out[4] = (v / 16 % 2) as u8;
+    out[5] = (v / 32 % 2) as u8;
+    out[6] = (v / 64 % 2) as u8;
+    out[7] = (v / 128 % 2) as u8;
+    out[8] = (v / 256 % 2) as u8;
+    out[9] = (v / 512 % 2) as u8;
+}
+
+fn octet_ten(b: u8) -> u16
+    ensures { λ r. ⌜ r ≡ octetTen b ⌝ }
+{
+    512 + 2 * b as u16
+}
+
+fn sync_ten(kind: Kind) -> u16
+    ensures { λ r. ⌜ r ≡ syncTen kind ⌝ }
+{
+    match kind {
+        Kind::Ci => 512,
+        Kind::Menu => 960,
+    }
+}
+
+// The group at the front of the octets: its category octet with the extension octets behind it. Answers how many octets that is.
+fn write_group(out: &mut [u8], octets: &[u8]) -> usize
+    requires { ⌜ (0 < length (now octets)) × (length (now octets) ≤ 64) × (10 * length (now octets) ≤ length (now out)) ⌝ }
+    ensures { λ r. ⌜ Grouped (now (octets .entry)) (now (out .entry)) r (now (out .exit)) ⌝ }
+{
+    let mut i: usize = 0;
+    loop {
+        let at = 10 * i;
+        write_ten(&mut out[at..], octet_ten(octets[i]));
+        i += 1;
+        if octets::group_ends(octets, i) {
+            return i;
+        }
+    }
+}
+
+// All octets, group by group, each into what is left behind the group before it.
+fn write_groups(out: &mut [u8], octets: &[u8])
+    requires { ⌜ (length (now octets) ≤ 64) × (10 * length (now octets) ≤ length (now out)) ⌝ }
+    ensures { λ _. ⌜ now (out .exit) ≡ front (framedAll (now (octets .entry))) (now (out .entry)) ⌝ }
+{
+    let mut i: usize = 0;
+    while i < octets.len() {
+        let at = 10 * i;
+        i += write_group(&mut out[at..], &octets[i..]);
+    }
+}
+
+// Ten 1s, ten sync bits, the octets.
+fn write_sequence(out: &mut [u8], kind: Kind, octets: &[u8])
+    requires { ⌜ (length (now octets) ≤ 64) × (20 + 10 * length (now octets) ≤ length (now out)) ⌝ }
+    ensures { λ _. ⌜ now (out .exit) ≡ front (sequence kind (now (octets .entry))) (now (out .entry)) ⌝ }
+{
+    write_ten(out, 1023);
+    write_ten(&mut out[10..], sync_ten(kind));
+    write_groups(&mut out[20..], octets);
+}
+
+// The sequence n times, each copy where the last one ended.
+fn write_copies(out: &mut [u8], kind: Kind, octets: &[u8], n: u16)
+    requires { ⌜ (length (now octets) ≤ 64) × (length (copies n (sequence kind (now octets))) ≤ length (now out)) ⌝ }
+    ensures { λ _. ⌜ now (out .exit) ≡ front (copies n (sequence kind (now (octets .entry)))) (now (out .entry)) ⌝ }
+{
+    let size = 20 + 10 * octets.len();
+    let mut at: usize = 0;
+    let mut done: u16 = 0;
+    while done < n {
+        write_sequence(&mut out[at..], kind, octets);
+        at += size;
+        done += 1;
+    }
+}
+
+// Writes the copies of a CI or a menu from the buffer's start, and answers how many bits that is.
+pub fn write(kind: Kind, octets: &[u8], n: u16, out: &mut [u8]) -> Wrote
+    ensures { λ r. ⌜ Meets (written kind (now (octets .entry)) n (now (out .entry))) r (now (out .exit)) ⌝ }
+{
+    let verdict = octets::test(Purpose::Writing(kind), octets);
+    match verdict {
+        Verdict::Refused(r) => Wrote::Refused(r),
+        Verdict::Accepted => {
+            let size = n as usize * (20 + 10 * octets.len());
+            if out.len() < size {
+                return Wrote::Refused(Refusal::ShortBuffer);
+            }
+            write_copies(out, kind, octets, n);
+            Wrote::Bits(size)
+        }
+    }
+}
+
+// Writes CJ once, from the buffer's start.
+pub fn write_cj(out: &mut [u8]) -> Wrote
+    ensures { λ r. ⌜ Meets (writtenCj (now (out .entry))) r (now (out .exit)) ⌝ }
+{
+    if out.len() < 30 {
+        return Wrote::Refused(Refusal::ShortBuffer);
+    }
+    let zeros = [0u8; 3];
+    write_groups(out, &zeros);
+    Wrote::Bits(30)
+}
