@@ -1,3 +1,4 @@
 pub mod Cases
+pub mod Chosen
 pub mod Computed
 pub mod Rest

@@ -1,6 +1,6 @@
 -- Laws about what stands on the line: lengths, one octet or one copy more, and ten bits as one number.
 -- Assumes nothing.
-use Prim.Native.Nat.{ℕ, zero, suc, _<_, _≤_, _+_, _*_, _-_}
+use Prim.Native.Nat.{ℕ, zero, suc, _<_, _≤_, _+_, _*_, _-_, _%_, _/_}
 use native.Mathlib.Nat.{zero-mul, suc-mul, mul-le-mul-right}
 use native.Mathlib.Numerals.{add-one}
 use native.Mathlib.Omega.{arith}
@@ -19,7 +19,18 @@ use Rattle.laws.proofs.Rest.{front-length, lent-length, front-then}
 use Rattle.octets.specs.declared.Kind.{Kind}
 use Rattle.octets.specs.declared.Kind.the-variants.{Ci, Menu}
 use Rattle.sequences.specs.Line.{framed, framedAll, tenOnes, sync, sequence, copies, cj}
-use Rattle.sequences.specs.Tens.{tenBits, syncTen, octetTen}
+use Rattle.sequences.specs.Tens.{spreads, tenBits, syncTen, octetTen}
+
+-- ten bits from the bytes of two spreads
+abbrev pub storedTen : ℕ → ℕ → ℕ → List ℕ
+storedTen low high v = low % 256 ∷ low / 256 % 256 ∷ low / 65536 % 256 ∷ low / 16777216 % 256 ∷ high % 256 ∷ high / 256 % 256 ∷ high / 65536 % 256 ∷ high / 16777216 % 256 ∷ v / 256 % 2 ∷ v / 512 % 2 ∷ []
+
+abbrev storesTen : ℕ → Bool
+storesTen v = sameList (storedTen (getD spreads (v % 16) 0) (getD spreads (v / 16 % 16) 0) v) (tenBits v)
+
+pub ten-stored : (v : ℕ) → v < 1024 → storedTen (getD spreads (v % 16) 0) (getD spreads (v / 16 % 16) 0) v ≡ tenBits v
+unfolding tenBits allBelow sameList both
+ten-stored v h = same-list (storedTen (getD spreads (v % 16) 0) (getD spreads (v / 16 % 16) 0) v) (tenBits v) (below storesTen 1024 tt v h)
 
 -- ten bits as one number
 ten-ones : tenBits 1023 ≡ tenOnes

@@ -7,6 +7,10 @@ use Rattle.octets.specs.declared.Kind.the-variants.{Ci, Menu}
 unfoldable pub tenBits : ℕ → List ℕ
 tenBits v = v % 2 ∷ v / 2 % 2 ∷ v / 4 % 2 ∷ v / 8 % 2 ∷ v / 16 % 2 ∷ v / 32 % 2 ∷ v / 64 % 2 ∷ v / 128 % 2 ∷ v / 256 % 2 ∷ v / 512 % 2 ∷ []
 
+-- four bits, a byte for each, the lowest first
+abbrev pub spreads : List ℕ
+spreads = 0x0 ∷ 0x1 ∷ 0x100 ∷ 0x101 ∷ 0x10000 ∷ 0x10001 ∷ 0x10100 ∷ 0x10101 ∷ 0x1000000 ∷ 0x1000001 ∷ 0x1000100 ∷ 0x1000101 ∷ 0x1010000 ∷ 0x1010001 ∷ 0x1010100 ∷ 0x1010101 ∷ []
+
 -- the sync bits
 abbrev pub syncTen : Kind → ℕ
 syncTen Ci = 512

@@ -9,7 +9,7 @@ ghost use lib.ListN.{length, take, drop};
 ghost use Rattle.laws.specs.Front.{front};
 ghost use Rattle.octets.specs.Lists.{untilCategory};
 ghost use Rattle.sequences.specs.Line.{framedAll, sequence, copies};
-ghost use Rattle.sequences.specs.Tens.{tenBits, syncTen, octetTen};
+ghost use Rattle.sequences.specs.Tens.{spreads, tenBits, syncTen, octetTen};
 ghost use Rattle.sequences.specs.Writing.{written, writtenCj, Meets, Grouped};
 
 // What a call of the writer answers: the number of bits written, or why nothing was.
@@ -18,19 +18,41 @@ pub enum Wrote {
     Refused(Refusal),
 }
 
+// Four bits, a byte for each, the lowest first: 64 bytes of constants, with which the writer stores four bits at a time.
+const SPREAD: [u32; 16] = [
+    0x0000_0000,
+    0x0000_0001,
+    0x0000_0100,
+    0x0000_0101,
+    0x0001_0000,
+    0x0001_0001,
+    0x0001_0100,
+    0x0001_0101,
+    0x0100_0000,
+    0x0100_0001,
+    0x0100_0100,
+    0x0100_0101,
+    0x0101_0000,
+    0x0101_0001,
+    0x0101_0100,
+    0x0101_0101,
+];
+
 // Ten bits, the lowest first.
-fn write_ten(out: &mut [u8], v: u16)
-    requires { ⌜ (10 ≤ length (now out)) × (v < 1024) ⌝ }
+fn write_ten(out: &mut [u8], v: u16, spread: &[u32; 16])
+    requires { ⌜ (10 ≤ length (now out)) × (v < 1024) × (now spread ≡ spreads) ⌝ }
     ensures { λ _. ⌜ now (out .exit) ≡ front (tenBits v) (now (out .entry)) ⌝ }
 {
-    out[0] = (v % 2) as u8;
-    out[1] = (v / 2 % 2) as u8;
-    out[2] = (v / 4 % 2) as u8;
-    out[3] = (v / 8 % 2) as u8;
-    out[4] = (v / 16 % 2) as u8;
-    out[5] = (v / 32 % 2) as u8;
-    out[6] = (v / 64 % 2) as u8;
-    out[7] = (v / 128 % 2) as u8;
+    let low = spread[(v % 16) as usize];
+    let high = spread[(v / 16 % 16) as usize];
+    out[0] = (low % 256) as u8;
+    out[1] = (low / 256 % 256) as u8;
+    out[2] = (low / 65536 % 256) as u8;
+    out[3] = (low / 16777216 % 256) as u8;
+    out[4] = (high % 256) as u8;
+    out[5] = (high / 256 % 256) as u8;
+    out[6] = (high / 65536 % 256) as u8;
+    out[7] = (high / 16777216 % 256) as u8;
     out[8] = (v / 256 % 2) as u8;
     out[9] = (v / 512 % 2) as u8;
 }
@@ -51,14 +73,14 @@ fn sync_ten(kind: Kind) -> u16
 }
 
 // The group at the front of the octets: its category octet with the extension octets behind it. Answers how many octets that is.
-fn write_group(out: &mut [u8], octets: &[u8]) -> usize
-    requires { ⌜ (0 < length (now octets)) × (length (now octets) ≤ 64) × (10 * length (now octets) ≤ length (now out)) ⌝ }
+fn write_group(out: &mut [u8], octets: &[u8], spread: &[u32; 16]) -> usize
+    requires { ⌜ (0 < length (now octets)) × (length (now octets) ≤ 64) × (10 * length (now octets) ≤ length (now out)) × (now spread ≡ spreads) ⌝ }
     ensures { λ r. ⌜ Grouped (now (octets .entry)) (now (out .entry)) r (now (out .exit)) ⌝ }
 {
     let mut i: usize = 0;
     loop {
         let at = 10 * i;
-        write_ten(&mut out[at..], octet_ten(octets[i]));
+        write_ten(&mut out[at..], octet_ten(octets[i]), spread);
         i += 1;
         if octets::group_ends(octets, i) {
             return i;
@@ -67,37 +89,37 @@ fn write_group(out: &mut [u8], octets: &[u8]) -> usize
 }
 
 // All octets, group by group, each into what is left behind the group before it.
-fn write_groups(out: &mut [u8], octets: &[u8])
-    requires { ⌜ (length (now octets) ≤ 64) × (10 * length (now octets) ≤ length (now out)) ⌝ }
+fn write_groups(out: &mut [u8], octets: &[u8], spread: &[u32; 16])
+    requires { ⌜ (length (now octets) ≤ 64) × (10 * length (now octets) ≤ length (now out)) × (now spread ≡ spreads) ⌝ }
     ensures { λ _. ⌜ now (out .exit) ≡ front (framedAll (now (octets .entry))) (now (out .entry)) ⌝ }
 {
     let mut i: usize = 0;
     while i < octets.len() {
         let at = 10 * i;
-        i += write_group(&mut out[at..], &octets[i..]);
+        i += write_group(&mut out[at..], &octets[i..], spread);
     }
 }
 
 // Ten 1s, ten sync bits, the octets.
-fn write_sequence(out: &mut [u8], kind: Kind, octets: &[u8])
-    requires { ⌜ (length (now octets) ≤ 64) × (20 + 10 * length (now octets) ≤ length (now out)) ⌝ }
+fn write_sequence(out: &mut [u8], kind: Kind, octets: &[u8], spread: &[u32; 16])
+    requires { ⌜ (length (now octets) ≤ 64) × (20 + 10 * length (now octets) ≤ length (now out)) × (now spread ≡ spreads) ⌝ }
     ensures { λ _. ⌜ now (out .exit) ≡ front (sequence kind (now (octets .entry))) (now (out .entry)) ⌝ }
 {
-    write_ten(out, 1023);
-    write_ten(&mut out[10..], sync_ten(kind));
-    write_groups(&mut out[20..], octets);
+    write_ten(out, 1023, spread);
+    write_ten(&mut out[10..], sync_ten(kind), spread);
+    write_groups(&mut out[20..], octets, spread);
 }
 
 // The sequence n times, each copy where the last one ended.
-fn write_copies(out: &mut [u8], kind: Kind, octets: &[u8], n: u16)
-    requires { ⌜ (length (now octets) ≤ 64) × (length (copies n (sequence kind (now octets))) ≤ length (now out)) ⌝ }
+fn write_copies(out: &mut [u8], kind: Kind, octets: &[u8], n: u16, spread: &[u32; 16])
+    requires { ⌜ (length (now octets) ≤ 64) × (length (copies n (sequence kind (now octets))) ≤ length (now out)) × (now spread ≡ spreads) ⌝ }
     ensures { λ _. ⌜ now (out .exit) ≡ front (copies n (sequence kind (now (octets .entry)))) (now (out .entry)) ⌝ }
 {
     let size = 20 + 10 * octets.len();
     let mut at: usize = 0;
     let mut done: u16 = 0;
     while done < n {
-        write_sequence(&mut out[at..], kind, octets);
+        write_sequence(&mut out[at..], kind, octets, spread);
         at += size;
         done += 1;
     }
@@ -115,7 +137,8 @@ pub fn write(kind: Kind, octets: &[u8], n: u16, out: &mut [u8]) -> Wrote
             if out.len() < size {
                 return Wrote::Refused(Refusal::ShortBuffer);
             }
-            write_copies(out, kind, octets, n);
+            let spread = SPREAD;
+            write_copies(out, kind, octets, n, &spread);
             Wrote::Bits(size)
         }
     }
@@ -128,7 +151,8 @@ pub fn write_cj(out: &mut [u8]) -> Wrote
     if out.len() < 30 {
         return Wrote::Refused(Refusal::ShortBuffer);
     }
+    let spread = SPREAD;
     let zeros = [0u8; 3];
-    write_groups(out, &zeros);
+    write_groups(out, &zeros, &spread);
     Wrote::Bits(30)
 }

@@ -1,6 +1,6 @@
 use native.Mathlib.Omega.{arith}
 use Prim.Native.Nat.{_≤_}
-use mathlib.Core.Path.{_≡_, sym, ap, _∙_}
+use mathlib.Core.Path.{_≡_, refl, sym, ap, _∙_}
 use lib.ListN.{length}
 use denote.Ref.{now}
 use Rattle.octets.specs.declared.Purpose.the-variants.{Writing}
@@ -50,9 +50,9 @@ returns c =
 
 write-copies-requires : tie.Need-write-copies-requires
 write-copies-requires c κs =
-    let t = c .before .before in
+    let t = c .before .before .before in
     let a = t .before .before .before .before .before .args in
-    (short t, omega (arith, line-length (a .kind) (now (a .octets)) (a .n), c .before .if1 .left))
+    (short t, omega (arith, line-length (a .kind) (now (a .octets)) (a .n), c .before .before .if1 .left), refl)
 
 returns-2 : tie.Need-returns-2
 returns-2 c =
@@ -66,11 +66,11 @@ same-length c = search needs
 returns-3 : tie.Need-returns-3
 returns-3 c =
     let w = c .before .before in
-    let t = w .before .before .before in
+    let t = w .before .before .before .before in
     let a = t .before .before .before .before .before .args in
     let line = line-length (a .kind) (now (a .octets)) (a .n) in
     meets-accepted (a .kind) (now (a .octets)) (a .n) (now (a .out)) _ _ (accepted t)
-    (meets-put (copies (a .n) (sequence (a .kind) (now (a .octets)))) (now (a .out)) _ (w .write-copies .last .0) (omega (arith, line, w .before .before .if1 .left)) (sym line) (w .write-copies .ensures))
+    (meets-put (copies (a .n) (sequence (a .kind) (now (a .octets)))) (now (a .out)) _ (w .write-copies .last .0) (omega (arith, line, w .before .before .before .if1 .left)) (sym line) (w .write-copies .ensures))
 
 pub write-spec : {M : Type 1} → statement M
 write-spec =

@@ -25,7 +25,7 @@ returns-2 : tie.Need-returns-2
 unfolding cj
 returns-2 c =
     let w = c .before .before in
-    meets-put cj (now (w .before .before .before .before .before .args .out)) 30 (w .write-groups .last .0) (omega (arith, cj-length)) (sym cj-length) (w .write-groups .ensures)
+    meets-put cj (now (w .before .before .before .before .before .before .args .out)) 30 (w .write-groups .last .0) (omega (arith, cj-length)) (sym cj-length) (w .write-groups .ensures)
 
 pub write-cj-spec : {M : Type 1} → statement M
 write-cj-spec =

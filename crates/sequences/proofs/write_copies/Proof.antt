@@ -13,10 +13,10 @@ use Rattle.sequences.proofs.write_copies.Statement.{statement}
 use Rattle.sequences.proofs.write_copies.Tie as tie
 
 abbrev Inv-loop : tie.InvT-loop
-Inv-loop out₀ kind octets n size at₀ done₀ out at done = (done ≤ n) × (at ≡ length (copies done (sequence kind octets))) × (out ≡ front (copies done (sequence kind octets)) out₀)
+Inv-loop out₀ kind octets n spread size at₀ done₀ out at done = (done ≤ n) × (at ≡ length (copies done (sequence kind octets))) × (out ≡ front (copies done (sequence kind octets)) out₀)
 
 abbrev μ-loop : tie.MeasureT-loop
-μ-loop out₀ kind octets n size at₀ done₀ out at done = n - done
+μ-loop out₀ kind octets n spread size at₀ done₀ out at done = n - done
 
 -- the copies so far fit, and the buffer is as long as it was lent
 within : (l : tie.At-loop Inv-loop μ-loop) → l .loop .at ≤ length (now (l .before .before .before .args .out))
@@ -61,7 +61,7 @@ write-sequence-requires c κs =
     let l = c .before .before in
     let s = l .before .before .before in
     let left = lent-length (copies (l .loop .done) (sequence (s .args .kind) (now (s .args .octets)))) (now (s .args .out)) (l .loop .out) (l .loop .at) (l .loop .inv .1) (within l) (l .loop .inv .2) in
-    (s .pre .0, omega (arith, room (c .before)))
+    (s .pre .0, omega (arith, room (c .before)), s .pre .2)
 
 add-at : tie.Need-add-at Inv-loop μ-loop
 add-at c = omega (arith, room (c .before .before .before .before), c .before .before .before .before .before .before .before .before .good)

@@ -18,10 +18,10 @@ use Rattle.sequences.proofs.write_group.Statement.{statement}
 use Rattle.sequences.proofs.write_group.Tie as tie
 
 abbrev Inv-loop : tie.InvT-loop
-Inv-loop out₀ octets i₀ out i = (i < length octets) × (out ≡ front (framedAll (take i octets)) out₀) × (untilCategory (drop 1 octets) ≡ i + untilCategory (drop (i + 1) octets))
+Inv-loop out₀ octets spread i₀ out i = (i < length octets) × (out ≡ front (framedAll (take i octets)) out₀) × (untilCategory (drop 1 octets) ≡ i + untilCategory (drop (i + 1) octets))
 
 abbrev μ-loop : tie.MeasureT-loop
-μ-loop out₀ octets i₀ out i = length octets - i
+μ-loop out₀ octets spread i₀ out i = length octets - i
 
 -- the buffer is as long as it was lent, and what is left of it holds the octets that are left
 long : (l : tie.At-loop Inv-loop μ-loop) → length (l .loop .out) ≡ length (now (l .before .before .before .args .out))
@@ -72,7 +72,7 @@ octet-ten-requires c κs = search needs
 write-ten-requires : tie.Need-write-ten-requires Inv-loop μ-loop
 write-ten-requires c κs =
     let l = c .before .before .before in
-    (omega (arith, left l), omega (arith, c .octet-ten .ensures, c .before .shared-slice-known2 .given (l .loop .i)))
+    (omega (arith, left l), omega (arith, c .octet-ten .ensures, c .before .shared-slice-known2 .given (l .loop .i)), l .before .before .before .pre .3)
 
 add-i : tie.Need-add-i Inv-loop μ-loop
 add-i c = search needs

@@ -14,10 +14,10 @@ use Rattle.sequences.proofs.write_groups.Statement.{statement}
 use Rattle.sequences.proofs.write_groups.Tie as tie
 
 abbrev Inv-loop : tie.InvT-loop
-Inv-loop out₀ octets i₀ out i = (i ≤ length octets) × (out ≡ front (framedAll (take i octets)) out₀)
+Inv-loop out₀ octets spread i₀ out i = (i ≤ length octets) × (out ≡ front (framedAll (take i octets)) out₀)
 
 abbrev μ-loop : tie.MeasureT-loop
-μ-loop out₀ octets i₀ out i = length octets - i
+μ-loop out₀ octets spread i₀ out i = length octets - i
 
 -- the buffer is as long as it was lent
 long : (l : tie.At-loop Inv-loop μ-loop) → length (l .loop .out) ≡ length (now (l .before .before .before .args .out))
@@ -65,7 +65,7 @@ write-group-requires c κs =
     let o = now (s .args .octets) in
     let left = ap length (rest-of o (l .loop .i)) ∙ length-drop (l .loop .i) o in
     let room = rest-length o (now (s .args .out)) (l .loop .out) (l .loop .i) (s .pre .1) (l .loop .inv .0) (l .loop .inv .1) in
-    (omega arith, omega arith, omega arith)
+    (omega arith, omega arith, omega arith, s .pre .2)
 
 add-i : tie.Need-add-i Inv-loop μ-loop
 add-i c = omega (arith, on (c .before .before))

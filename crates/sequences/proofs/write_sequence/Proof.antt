@@ -29,7 +29,9 @@ sync-ten-requires : tie.Need-sync-ten-requires
 sync-ten-requires c κs = search needs
 
 write-ten-requires-2 : tie.Need-write-ten-requires-2
-write-ten-requires-2 c κs = (search needs, omega (arith, c .sync-ten .ensures, sync-small (c .before .before .before .before .before .before .before .before .args .kind)))
+write-ten-requires-2 c κs =
+    let s = c .before .before .before .before .before .before .before .before in
+    (search needs, omega (arith, c .sync-ten .ensures, sync-small (s .args .kind)), s .pre .2)
 
 sub-write-groups : tie.Need-sub-write-groups
 sub-write-groups c = search needs

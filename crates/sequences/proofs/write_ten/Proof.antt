@@ -1,11 +1,34 @@
 use native.Mathlib.Omega.{arith}
-use lib.ListN.{length-set}
+use Prim.Native.Nat.{ℕ, _%_, _/_}
+use mathlib.Core.Path.{_≡_, ap, _∙_}
+use mathlib.Core.List.{List}
+use lib.ListN.{getD, length-set}
 use lib.Seq.{sets-eq}
 use denote.Ref.{now}
-use Rattle.sequences.specs.Tens.{tenBits}
+use Rattle.laws.specs.Front.{front}
+use Rattle.sequences.specs.Tens.{spreads, tenBits}
+use Rattle.sequences.proofs.Lines.{storedTen, ten-stored}
 use borrow.Author.Needs.{needs}
 use Rattle.sequences.proofs.write_ten.Statement.{statement}
 use Rattle.sequences.proofs.write_ten.Tie as tie
+
+cast-low : tie.Need-cast-low
+cast-low c = search needs
+
+mul-low : tie.Need-mul-low
+mul-low c = search needs
+
+element-copy-out-low : tie.Need-element-copy-out-low
+element-copy-out-low c = search needs
+
+cast-high : tie.Need-cast-high
+cast-high c = search needs
+
+mul-high : tie.Need-mul-high
+mul-high c = search needs
+
+element-copy-out-high : tie.Need-element-copy-out-high
+element-copy-out-high c = search needs
 
 cast-out : tie.Need-cast-out
 cast-out c = search needs
@@ -71,13 +94,23 @@ same-length : tie.Need-same-length
 same-length c = simp length-set
 
 returns : tie.Need-returns
-unfolding tenBits
-returns c = sets-eq (tenBits (c .args .v)) (now (c .args .out)) 0 (c .pre .0)
+returns c =
+    let s = c .before .before in
+    let v = s .args .v in
+    let old = now (s .args .out) in
+    let stored : List ℕ → List ℕ = λ (t : List ℕ). storedTen (getD t (v % 16) 0) (getD t (v / 16 % 16) 0) v in
+    sets-eq (stored (now (s .args .spread))) old 0 (s .pre .0) ∙ ap (λ (t : List ℕ). front (stored t) old) (s .pre .2) ∙ ap (λ (g : List ℕ). front g old) (ten-stored v (s .pre .1))
 
 pub write-ten-spec : {M : Type 1} → statement M
 write-ten-spec =
     tie.close
     (tie.spec
+    cast-low
+    mul-low
+    element-copy-out-low
+    cast-high
+    mul-high
+    element-copy-out-high
     cast-out
     slice-write-out
     cast-out-2

@@ -1,0 +1,62 @@
+-- Numbers as a signed 32-bit integer holds them, and that every answer fits one.
+-- Assumes nothing.
+use Prim.Native.Nat.{ℕ, zero, suc, _<_, _≤_, _^_}
+use native.Mathlib.Omega.{arith}
+use mathlib.Core.Path.{_≡_, refl, sym, ap, subst, _∙_}
+use mathlib.Core.List.{List}
+use borrow.Author.Tests.{lt-ltb, eqb-true}
+use lib.Dec.{eqb}
+use lib.IntN.{ℤ, pos, negsuc, negℤ, _-ℤ_, +ℤ-idl}
+use lib.ListN.{length}
+use lib.Signed.{mag}
+use mir.Syntax.{w32}
+use mir.Val.{SFits, toZ, ofZ}
+use mir.Facts.{toZ-ofZ}
+use Rattle.laws.proofs.Chosen.{chosen}
+use Rattle.octets.specs.declared.Kind.{Kind}
+use Rattle.octets.specs.declared.Purpose.the-variants.{Writing}
+use Rattle.octets.specs.Lists.{before, listFault}
+use Rattle.octets.proofs.Lists.{accepted-short}
+use Rattle.sequences.specs.declared.Wrote.{Wrote}
+use Rattle.sequences.specs.Line.{sequence, copies, cj}
+use Rattle.sequences.specs.Writing.{says, Outcome, roomFault, put, written, writtenCj, Meets}
+use Rattle.sequences.proofs.Lines.{line-length, line-small, cj-length}
+use Rattle.tailsprig.specs.Codes.{code, Small, Returns}
+
+pub read-back : (n : ℕ) → n < 2 ^ 31 → toZ w32 n ≡ pos n
+read-back n h = simp (lt-ltb n (2 ^ 31) h)
+
+-- a small number, negated
+pub negated-is : (n : ℕ) → n < 2 ^ 31 → pos 0 -ℤ toZ w32 n ≡ negℤ (pos n)
+negated-is n h = ap (λ (z : ℤ). pos 0 -ℤ z) (read-back n h) ∙ +ℤ-idl (negℤ (pos n))
+
+pub negated-fits : (n : ℕ) → n < 2 ^ 31 → SFits w32 (negℤ (pos n))
+negated-fits zero h = record { sfits = h }
+negated-fits (suc n) h = record { sfits = omega arith }
+
+-- no line is too long to be counted
+put-small : (f : ℕ) (line out : List ℕ) → (f ≡ 0 → length line < 2 ^ 31) → Small (put f line out .answer)
+unfolding put
+put-small f line out h = chosen (λ (o : Outcome). Small (o .answer)) (eqb f 0) _ _ (λ e. h (eqb-true f 0 e)) (λ e. tt)
+
+first-none : (f g : ℕ) → before f g ≡ 0 → f ≡ 0
+first-none f g = chosen (λ (v : ℕ). v ≡ 0 → f ≡ 0) (eqb f 0) g f (λ e z. eqb-true f 0 e) (λ e z. z)
+
+pub written-small : (kind : Kind) (octets : List ℕ) (n : ℕ) (out : List ℕ) → n ≤ 65535 → Small (written kind octets n out .answer)
+written-small kind octets n out h =
+    let line = copies n (sequence kind octets) in
+    put-small (before (listFault (Writing kind) octets) (roomFault line out)) line out
+    (λ e. omega (arith, line-length kind octets n, line-small octets n (accepted-short (Writing kind) octets (first-none (listFault (Writing kind) octets) (roomFault line out) e)) h))
+
+pub cj-small : (out : List ℕ) → Small (writtenCj out .answer)
+cj-small out = put-small (roomFault cj out) cj out (λ e. omega (arith, cj-length))
+
+pub meets-small : (laid : Outcome) (w : Wrote) (after : List ℕ) → Meets laid w after → Small (laid .answer) → Small (says w)
+meets-small laid w after m s = rw (m .answer) s
+
+-- what a call answers comes to C as it is
+pub read-answer : (r : ℤ) → mag r < 2 ^ 31 → toZ w32 (ofZ w32 r) ≡ r
+read-answer r f = toZ-ofZ (record { sfits = f })
+
+pub returns-as : (laid : Outcome) (w : Wrote) (after : List ℕ) (r : ℤ) → Meets laid w after → mag r < 2 ^ 31 → r ≡ code (says w) → Returns laid (toZ w32 (ofZ w32 r)) after
+returns-as laid w after r m f e = record { answer = read-answer r f ∙ e ∙ ap code (m .answer); buffer = m .buffer }

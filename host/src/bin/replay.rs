@@ -1,0 +1,96 @@
+//! `replay FILE..`: calls the proved library for each row of the vector files and compares what it answers with the
+//! row's last column. Prints a line for each difference and a last line with the counts; exits with 1 on a difference and
+//! with 2 where a file cannot be read as vectors. A file's header line says what its rows are.
+use std::{env, fs, process::ExitCode};
+use tailsprig::text;
+
+/// What a row's call gives, in the text of its last column.
+type Call = fn(&[&str]) -> Result<String, String>;
+
+/// The header of each kind of file, and the call for its rows.
+const FILES: [(&str, Call); 1] = [("kind\toctets\tcopies\troom\tanswer", write)];
+
+/// A byte that is no bit, at each place another: what the writer must not touch.
+fn untouched(room: usize) -> Vec<u8> {
+    (0..room).map(|at| 2 + (at % 251) as u8).collect()
+}
+
+fn write(row: &[&str]) -> Result<String, String> {
+    let kind = text::kind(row[0])?;
+    let octets = text::octets(row[1])?;
+    let copies = text::number(row[2])?;
+    let lent = untouched(text::number(row[3])?);
+    let mut out = lent.clone();
+    let (answer, written) = match tailsprig::write(kind, &octets, copies, &mut out) {
+        Ok(bits) if bits > out.len() => return Ok(format!("{bits} bits in {} bytes", out.len())),
+        Ok(bits) => (text::show_bits(&out[..bits]), bits),
+        Err(refusal) => (text::show_refusal(refusal), 0),
+    };
+    if out[written..] != lent[written..] {
+        return Ok(format!("{answer}, and bytes behind that changed"));
+    }
+    Ok(answer)
+}
+
+/// The rows of a file, how many differ, and whether every line could be read.
+struct Tally {
+    rows: usize,
+    differ: usize,
+    unread: usize,
+}
+
+fn replay(path: &str, tally: &mut Tally) {
+    let mut unread = |why: String| {
+        println!("{path}: {why}");
+        tally.unread += 1;
+    };
+    let content = match fs::read_to_string(path) {
+        Ok(content) => content,
+        Err(error) => return unread(error.to_string()),
+    };
+    let mut lines = content.lines();
+    let header = lines.next().unwrap_or("");
+    let Some((_, call)) = FILES.iter().find(|(known, _)| *known == header) else {
+        return unread(format!("no vectors are known by the header '{header}'"));
+    };
+    for (index, line) in lines.enumerate() {
+        let number = index + 2;
+        let fields: Vec<&str> = line.split('\t').collect();
+        let (Some((expected, row)), true) =
+            (fields.split_last(), fields.len() == header.split('\t').count())
+        else {
+            unread(format!("line {number}: {} fields", fields.len()));
+            continue;
+        };
+        match call(row) {
+            Ok(answer) => {
+                tally.rows += 1;
+                if answer != *expected {
+                    println!("{path}: line {number}: answered {answer}, expected {expected}");
+                    tally.differ += 1;
+                }
+            }
+            Err(why) => unread(format!("line {number}: {why}")),
+        }
+    }
+}
+
+fn main() -> ExitCode {
+    let paths: Vec<String> = env::args().skip(1).collect();
+    let mut tally = Tally { rows: 0, differ: 0, unread: 0 };
+    for path in &paths {
+        replay(path, &mut tally);
+    }
+    println!(
+        "{} files, {} rows, {} differ, {} not read",
+        paths.len(),
+        tally.rows,
+        tally.differ,
+        tally.unread
+    );
+    match (tally.rows, tally.differ, tally.unread) {
+        (_, 1.., 0) => ExitCode::from(1),
+        (1.., 0, 0) => ExitCode::SUCCESS,
+        _ => ExitCode::from(2),
+    }
+}
