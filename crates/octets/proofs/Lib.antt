@@ -1,2 +1,3 @@
 pub mod Numbers
+pub mod EachOctet
 pub mod Lists

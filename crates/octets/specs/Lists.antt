@@ -1,15 +1,15 @@
 -- Document 01: which octet lists are accepted, and where a group ends.
 use Prim.Native.Nat.{ℕ, suc, _+_}
-use mathlib.Core.Bool.{Bool, true, false}
+use mathlib.Core.Bool.{Bool, true, false, not}
 use mathlib.Core.List.{List, [], _∷_}
 use lib.ListN.{length, drop, getD}
 use lib.Dec.{ltb, eqb}
-use Rattle.laws.specs.Choice.{choose, both}
+use Rattle.laws.specs.Choice.{choose, both, either}
 use Rattle.octets.specs.declared.Kind.{Kind}
 use Rattle.octets.specs.declared.Kind.the-variants.{Ci, Menu}
 use Rattle.octets.specs.declared.Purpose.{Purpose}
 use Rattle.octets.specs.declared.Purpose.the-variants.{Reading, Writing}
-use Rattle.octets.specs.Octets.{category, tag, bad}
+use Rattle.octets.specs.Octets.{category, tag, extension, bad}
 
 -- 'Bits on the line': a later category octet. In a menu "category octets with a tag other than 0", in CI none; 12 is "in writing only"
 abbrev pub categoryFault : Purpose → ℕ → ℕ
@@ -29,6 +29,11 @@ before f g = choose (eqb f 0) g f
 unfoldable pub firstFault : Purpose → List ℕ → ℕ
 firstFault p [] = 0
 firstFault p (b ∷ bs) = before (octetFault p b) (firstFault p bs)
+
+-- "whose others are extension octets or category octets with a tag other than 0. For CI only the first octet and extension octets are accepted."
+abbrev pub accepts : Kind → ℕ → Bool
+accepts Menu b = either (extension b) (both (category b) (not (eqb (tag b) 0)))
+accepts Ci b = extension b
 
 -- refusal 5, "first octet not tag 1 with b4 = 0, no octets"
 abbrev pub opens : List ℕ → Bool

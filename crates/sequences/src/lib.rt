@@ -5,7 +5,7 @@ use octets::Refusal;
 use octets::Verdict;
 ghost use mathlib.Core.Path.{_≡_};
 ghost use Prim.Native.Nat.{suc, _+_, _*_, _<_, _≤_};
-ghost use lib.ListN.{length, take, drop};
+ghost use lib.ListN.{length, take, drop, getD};
 ghost use Rattle.laws.specs.Front.{front};
 ghost use Rattle.octets.specs.Lists.{untilCategory};
 ghost use Rattle.sequences.specs.Line.{framedAll, sequence, copies};
@@ -38,13 +38,20 @@ const SPREAD: [u32; 16] = [
     0x0101_0101,
 ];
 
+fn four(n: u16, spread: &[u32; 16]) -> u32
+    requires { ⌜ (n < 16) × (now spread ≡ spreads) ⌝ }
+    ensures { λ r. ⌜ r ≡ getD spreads n 0 ⌝ }
+{
+    spread[n as usize]
+}
+
 // Ten bits, the lowest first.
 fn write_ten(out: &mut [u8], v: u16, spread: &[u32; 16])
     requires { ⌜ (10 ≤ length (now out)) × (v < 1024) × (now spread ≡ spreads) ⌝ }
     ensures { λ _. ⌜ now (out .exit) ≡ front (tenBits v) (now (out .entry)) ⌝ }
 {
-    let low = spread[(v % 16) as usize];
-    let high = spread[(v / 16 % 16) as usize];
+    let low = four(v % 16, spread);
+    let high = four(v / 16 % 16, spread);
     out[0] = (low % 256) as u8;
     out[1] = (low / 256 % 256) as u8;
     out[2] = (low / 65536 % 256) as u8;

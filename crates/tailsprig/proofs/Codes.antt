@@ -60,3 +60,7 @@ read-answer r f = toZ-ofZ (record { sfits = f })
 
 pub returns-as : (laid : Outcome) (w : Wrote) (after : List ℕ) (r : ℤ) → Meets laid w after → mag r < 2 ^ 31 → r ≡ code (says w) → Returns laid (toZ w32 (ofZ w32 r)) after
 returns-as laid w after r m f e = record { answer = read-answer r f ∙ e ∙ ap code (m .answer); buffer = m .buffer }
+
+-- two results that meet a promise are equal
+pub returns-unique : (laid : Outcome) (r s : ℤ) (after before : List ℕ) → Returns laid r after → Returns laid s before → (r ≡ s) × (after ≡ before)
+returns-unique laid r s after before p q = (p .answer ∙ sym (q .answer), p .buffer ∙ sym (q .buffer))

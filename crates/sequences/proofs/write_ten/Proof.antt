@@ -1,5 +1,5 @@
 use native.Mathlib.Omega.{arith}
-use Prim.Native.Nat.{ℕ, _%_, _/_}
+use Prim.Native.Nat.{ℕ, _%_}
 use mathlib.Core.Path.{_≡_, ap, _∙_}
 use mathlib.Core.List.{List}
 use lib.ListN.{getD, length-set}
@@ -12,23 +12,11 @@ use borrow.Author.Needs.{needs}
 use Rattle.sequences.proofs.write_ten.Statement.{statement}
 use Rattle.sequences.proofs.write_ten.Tie as tie
 
-cast-low : tie.Need-cast-low
-cast-low c = search needs
+four-requires : tie.Need-four-requires
+four-requires c κs = search needs
 
-mul-low : tie.Need-mul-low
-mul-low c = search needs
-
-element-copy-out-low : tie.Need-element-copy-out-low
-element-copy-out-low c = search needs
-
-cast-high : tie.Need-cast-high
-cast-high c = search needs
-
-mul-high : tie.Need-mul-high
-mul-high c = search needs
-
-element-copy-out-high : tie.Need-element-copy-out-high
-element-copy-out-high c = search needs
+four-requires-2 : tie.Need-four-requires-2
+four-requires-2 c κs = search needs
 
 cast-out : tie.Need-cast-out
 cast-out c = search needs
@@ -95,22 +83,21 @@ same-length c = simp length-set
 
 returns : tie.Need-returns
 returns c =
-    let s = c .before .before in
+    let s = c .before .before .before in
     let v = s .args .v in
     let old = now (s .args .out) in
-    let stored : List ℕ → List ℕ = λ (t : List ℕ). storedTen (getD t (v % 16) 0) (getD t (v / 16 % 16) 0) v in
-    sets-eq (stored (now (s .args .spread))) old 0 (s .pre .0) ∙ ap (λ (t : List ℕ). front (stored t) old) (s .pre .2) ∙ ap (λ (g : List ℕ). front g old) (ten-stored v (s .pre .1))
+    let low = c .before .four in
+    let high = c .four2 in
+    let stored : storedTen (low .result) (high .result) v ≡ tenBits v =
+    ap (λ (w : ℕ). storedTen w (high .result) v) (low .ensures) ∙ ap (λ (w : ℕ). storedTen (getD spreads (v % 16) 0) w v) (high .ensures) ∙ ten-stored v (s .pre .1) in
+    sets-eq (storedTen (low .result) (high .result) v) old 0 (s .pre .0) ∙ ap (λ (g : List ℕ). front g old) stored
 
 pub write-ten-spec : {M : Type 1} → statement M
 write-ten-spec =
     tie.close
     (tie.spec
-    cast-low
-    mul-low
-    element-copy-out-low
-    cast-high
-    mul-high
-    element-copy-out-high
+    four-requires
+    four-requires-2
     cast-out
     slice-write-out
     cast-out-2

@@ -1,0 +1,47 @@
+-- Document 01, 'Worked values': the lines marked P, as one table.
+use Prim.Native.Nat.{ℕ}
+use mathlib.Core.Bool.{Bool, true, false}
+use mathlib.Core.List.{List, [], _∷_}
+use lib.Dec.{eqb}
+use lib.ListN.{replicate}
+use Rattle.laws.specs.Tests.{sameList}
+use Rattle.octets.specs.declared.Kind.{Kind}
+use Rattle.octets.specs.declared.Kind.the-variants.{Ci, Menu}
+use Rattle.sequences.specs.Line.{sequence}
+use Rattle.sequences.specs.Writing.{Said, bits, refusal, written}
+
+-- a line of the table: what is asked, and what document 01 says comes of it
+pub data Case : Type 0 where
+  -- a message's kind and octets, and its bits on the line
+  stands : Kind → List ℕ → List ℕ → Case
+  -- a message's kind and octets, the copies, the bytes lent, and what the writer answers
+  writes : Kind → List ℕ → ℕ → ℕ → Said → Case
+
+abbrev sameSaid : Said → Said → Bool
+sameSaid (bits m) (bits n) = eqb m n
+sameSaid (bits m) (refusal n) = false
+sameSaid (refusal m) (bits n) = false
+sameSaid (refusal m) (refusal n) = eqb m n
+
+-- the definitions give what the line says
+abbrev pub holds : Case → Bool
+holds (stands kind octets line) = sameList (sequence kind octets) line
+holds (writes kind octets n room said) = sameSaid (written kind octets n (replicate room 0) .answer) said
+
+-- "CM of A is C1 45 13 90 2A"
+abbrev pub cmOfA : List ℕ
+cmOfA = 0xC1 ∷ 0x45 ∷ 0x13 ∷ 0x90 ∷ 0x2A ∷ []
+
+abbrev pub worked : List Case
+worked =
+    -- "CM of A is C1 45 13 90 2A, 70 bits."
+    writes Menu cmOfA 1 100 (bits 70)
+    -- "CI for data: 1111111111 0000000001 0100000111."
+    ∷ stands Ci (0xC1 ∷ []) (1 ∷ 1 ∷ 1 ∷ 1 ∷ 1 ∷ 1 ∷ 1 ∷ 1 ∷ 1 ∷ 1 ∷ 0 ∷ 0 ∷ 0 ∷ 0 ∷ 0 ∷ 0 ∷ 0 ∷ 0 ∷ 0 ∷ 1 ∷ 0 ∷ 1 ∷ 0 ∷ 0 ∷ 0 ∷ 0 ∷ 0 ∷ 1 ∷ 1 ∷ 1 ∷ [])
+    -- "64 octets accepted, 65 refused with 4."
+    ∷ writes Menu (0xC1 ∷ replicate 63 0x10) 1 660 (bits 660)
+    ∷ writes Menu (0xC1 ∷ replicate 64 0x10) 1 670 (refusal 4)
+    -- "buffer of 69 bytes for one copy of A's CM: 6; 70 is enough."
+    ∷ writes Menu cmOfA 1 69 (refusal 6)
+    ∷ writes Menu cmOfA 1 70 (bits 70)
+    ∷ []
