@@ -2,6 +2,7 @@
 ghost use mathlib.Core.Path.{_≡_};
 ghost use Prim.Native.Nat.{_+_, _≤_};
 ghost use lib.ListN.{length, drop};
+ghost use Rattle.laws.specs.Tests.{sameList};
 ghost use Rattle.octets.specs.Refusals.{number, fault};
 ghost use Rattle.octets.specs.Octets.{category, tag, bad};
 ghost use Rattle.octets.specs.Lists.{categoryFault, octetFault, firstFault, opens, listFault, groupEnds};
@@ -73,7 +74,7 @@ fn tag_of(b: u8) -> u8
     b % 16
 }
 
-fn is_bad(b: u8) -> bool
+pub fn is_bad(b: u8) -> bool
     ensures { λ r. ⌜ r ≡ bad b ⌝ }
 {
     if b / 16 % 2 == 1 {
@@ -169,4 +170,21 @@ pub fn group_ends(octets: &[u8], i: usize) -> bool
     } else {
         true
     }
+}
+
+// Whether two octet lists are the same.
+pub fn same(a: &[u8], b: &[u8]) -> bool
+    ensures { λ r. ⌜ r ≡ sameList (now (a .entry)) (now (b .entry)) ⌝ }
+{
+    if a.len() != b.len() {
+        return false;
+    }
+    let mut i: usize = 0;
+    while i < a.len() {
+        if a[i] != b[i] {
+            return false;
+        }
+        i += 1;
+    }
+    true
 }

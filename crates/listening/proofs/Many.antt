@@ -1,0 +1,83 @@
+-- Many bits, one at a time: what a loop over them cites.
+-- Assumes nothing.
+use Prim.Native.Nat.{ℕ, _<_, _≤_, _+_}
+use native.Mathlib.Numerals.{add-one}
+use native.Mathlib.Omega.{arith}
+use mathlib.Core.Path.{_≡_, refl, sym, ap, _∙_}
+use mathlib.Core.Bool.{Bool, true, false}
+use mathlib.Core.List.{List}
+use borrow.Author.Tests.{lt-ltb, le-ltb, ltb-true}
+use lib.Dec.{ltb, eqb}
+use lib.ListN.{length, drop, getD, drop-of-length-le}
+use lib.Seq.{drop-cons}
+use Rattle.laws.specs.Choice.{choose}
+use Rattle.laws.proofs.Chosen.{chosen}
+use Rattle.listening.specs.declared.Message.{Message}
+use Rattle.listening.specs.declared.Listener.{Listener}
+use Rattle.listening.specs.declared.Stepped.{Stepped}
+use Rattle.listening.specs.Framing.{stepped}
+use Rattle.listening.specs.Hearing.{Told, silence, ci, menu, cj, refusal, Outcome, Many, changed, agreed, reported, told, acted, refuses, heardIn, silent, listened, finished}
+use Rattle.listening.proofs.Acts.{changed-not, acted-other}
+
+-- acts up to 3 tell nothing, and the others something
+told-quiet : (act : ℕ) (m last : Message) → act < 4 → told act m last ≡ silence
+unfolding told choose
+told-quiet act m last h = simp (lt-ltb act 4 h)
+
+abbrev Loud : Told → Type 0
+Loud t = silent t ≡ false
+
+reported-loud : (m last : Message) → Loud (reported m last)
+unfolding reported
+reported-loud m last = chosen Loud (eqb (m .kind) 1) ci (menu (agreed m last)) (λ _. refl) (λ _. refl)
+
+told-loud : (act : ℕ) (m last : Message) → 3 < act → Loud (told act m last)
+unfolding told
+told-loud act m last h =
+    chosen Loud (ltb act 4) silence _ (λ t. absurd (let z : ⊥ = omega (arith, ltb-true act 4 t) in z))
+    (λ _. chosen Loud (eqb act 4) (reported m last) _ (λ _. reported-loud m last)
+    (λ _. chosen Loud (eqb act 5) cj (refusal _) (λ _. refl) (λ _. refl)))
+
+-- a bit, by what it is and what it asks
+module _ (rec : Listener) (bit : ℕ) where
+  heard-not-a-bit : 1 < bit → heardIn rec bit ≡ refuses 1 rec
+  unfolding heardIn choose
+  heard-not-a-bit h = simp (lt-ltb 1 bit h)
+
+  heard-bit : bit ≤ 1 → heardIn rec bit ≡ acted rec (stepped (rec .ear) (rec .msg .len) bit)
+  unfolding heardIn choose
+  heard-bit h = simp (le-ltb 1 bit h)
+
+-- one bit of many
+module _ (rec : Listener) (s : List ℕ) (i n : ℕ) where
+  pub listened-end : length s ≤ i → listened rec (drop i s) n ≡ record { report = silence; rec = rec; taken = n }
+  unfolding listened
+  listened-end h = simp (drop-of-length-le s h)
+
+  listened-on : i < length s → (o : Outcome) → heardIn rec (getD s i 0) ≡ o → silent (o .report) ≡ true → listened rec (drop i s) n ≡ listened (o .rec) (drop (i + 1) s) (n + 1)
+  unfolding listened choose
+  listened-on h o e q = simp (drop-cons s i 0 h, e, q, add-one i)
+
+  listened-stop : i < length s → (o : Outcome) → heardIn rec (getD s i 0) ≡ o → silent (o .report) ≡ false → listened rec (drop i s) n ≡ record { report = o .report; rec = o .rec; taken = n + 1 }
+  unfolding listened choose
+  listened-stop h o e q = simp (drop-cons s i 0 h, e, q)
+
+  pub listened-not-a-bit : i < length s → 1 < getD s i 0 → listened rec (drop i s) n ≡ record { report = refusal 1; rec = rec; taken = n + 1 }
+  listened-not-a-bit h b = listened-stop h (refuses 1 rec) (heard-not-a-bit rec (getD s i 0) b) refl
+
+  module _ (h : i < length s) (b : getD s i 0 ≤ 1) (t : Stepped) (e : t ≡ stepped (rec .ear) (rec .msg .len) (getD s i 0)) where
+    heard-step : heardIn rec (getD s i 0) ≡ acted rec t
+    heard-step = heard-bit rec (getD s i 0) b ∙ ap (acted rec) (sym e)
+
+    pub listened-quiet : t .act < 4 → listened rec (drop i s) n ≡ listened (record { ear = t .ear; msg = changed (rec .msg) (t .act) (t .ear .past); last = rec .last }) (drop (i + 1) s) (n + 1)
+    unfolding acted
+    listened-quiet q =
+        let quiet : silent (acted rec t .report) ≡ true = ap silent (told-quiet (t .act) (rec .msg) (rec .last) q) in
+        listened-on h (acted rec t) heard-step quiet
+        ∙ ap (λ (r : Listener). listened r (drop (i + 1) s) (n + 1)) (sym (acted-other rec t (λ z. omega (arith, q, z))))
+
+    pub listened-told : 3 < t .act → listened rec (drop i s) n ≡ finished (t .ear) (rec .msg) (rec .last) (t .act) (n + 1)
+    unfolding acted
+    listened-told q =
+        let kept = changed-not (rec .msg) (t .act) (t .ear .past) (λ z. omega (arith, q, z)) (λ z. omega (arith, q, z)) (λ z. omega (arith, q, z)) in
+        listened-stop h (acted rec t) heard-step (told-loud (t .act) (rec .msg) (rec .last) q) ∙ simp kept

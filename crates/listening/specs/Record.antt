@@ -1,0 +1,43 @@
+-- docs/RANGES.md: what a listening record may hold, and the fresh one.
+use Prim.Native.Nat.{ℕ, _≤_}
+use mathlib.Core.Bool.{Bool}
+use lib.Dec.{leb}
+use lib.ListN.{replicate}
+use Rattle.laws.specs.Choice.{both}
+use Rattle.listening.specs.declared.Ear.{Ear}
+use Rattle.listening.specs.declared.Message.{Message}
+use Rattle.listening.specs.declared.Listener.{Listener}
+
+abbrev pub earInRange : Ear → Bool
+earInRange ear = both (leb (ear .heard) 30) (leb (ear .place) 28)
+
+-- the kind and the count of octets of a message
+abbrev pub messageInRange : ℕ → ℕ → Bool
+messageInRange kind len = both (leb kind 2) (leb len 64)
+
+-- "listening record .. with a field outside its range" is refused with 10
+abbrev pub inRange : Listener → Bool
+inRange rec =
+    both (earInRange (rec .ear))
+    (both (messageInRange (rec .msg .kind) (rec .msg .len)) (messageInRange (rec .last .kind) (rec .last .len)))
+
+-- the same, as facts
+pub record EarFits (ear : Ear) : Type 0 where
+  pub heard : ear .heard ≤ 30
+  pub place : ear .place ≤ 28
+
+pub record MessageFits (m : Message) : Type 0 where
+  pub kind : m .kind ≤ 2
+  pub len : m .len ≤ 64
+
+pub record Fits (rec : Listener) : Type 0 where
+  pub ear : EarFits (rec .ear)
+  pub msg : MessageFits (rec .msg)
+  pub last : MessageFits (rec .last)
+
+-- "In a fresh record nothing has been heard."
+abbrev pub empty : Message
+empty = record { kind = 0; len = 0; octets = replicate 64 0 }
+
+abbrev pub fresh : Listener
+fresh = record { ear = record { past = 0; heard = 0; place = 0 }; msg = empty; last = empty }

@@ -1,0 +1,548 @@
+// Listening: what is heard on a line, bit by bit. The host keeps one record for each line.
+//
+// The record is large and a bit touches little of it, so a bit first turns the ear, which is three numbers, and says what is
+// to be done with the messages; the messages are touched only then.
+use octets::Purpose;
+use octets::Refusal;
+use octets::Verdict;
+ghost use mathlib.Core.Path.{_≡_};
+ghost use Prim.Native.Nat.{_+_, _-_, _*_, _<_, _≤_};
+ghost use lib.Dec.{eqb};
+ghost use lib.ListN.{length, take, drop, getD};
+ghost use Rattle.octets.specs.Refusals.{number};
+ghost use Rattle.octets.specs.Lists.{listFault};
+ghost use Rattle.listening.specs.Framing.{pushed, more, isCj, octetOf, Refuses, ActFits, go, hunted, synced, bounded, stopped, ended, turned, stepped};
+ghost use Rattle.listening.specs.Record.{EarFits, MessageFits, Fits, earInRange, messageInRange, inRange, empty, fresh};
+ghost use Rattle.listening.specs.Hearing.{says, started, stored, changed, agreed, reported, told, acted, heardIn, heard, listened, heardMany, Hears, HearsMany, finished};
+
+// What was heard last: the newest bit on top, how many bits were heard up to 30, and where in the framing the next bit is.
+#[repr(C)]
+pub struct Ear {
+    pub past: u32,
+    pub heard: u32,
+    pub place: u32,
+}
+
+// A message: 1 for CI, 2 for a menu, 0 for none; how many octets it has; and these.
+#[repr(C)]
+pub struct Message {
+    pub kind: u8,
+    pub len: u8,
+    pub octets: [u8; 64],
+}
+
+// The record of a line: the ear, the message being heard or heard last, and the message reported last.
+#[repr(C)]
+pub struct Listener {
+    pub ear: Ear,
+    pub msg: Message,
+    pub last: Message,
+}
+
+// What a bit reports. A menu is agreed or not.
+pub enum Heard {
+    Nothing,
+    Ci,
+    Menu(bool),
+    Cj,
+    Refused(Refusal),
+}
+
+// The next place in the framing, and what is to be done.
+pub struct Turned {
+    pub place: u32,
+    pub act: u32,
+}
+
+pub struct Stepped {
+    pub ear: Ear,
+    pub act: u32,
+}
+
+pub struct Answer {
+    pub rec: Listener,
+    pub heard: Heard,
+}
+
+// Many bits: how many were taken, and what the last of them reported.
+pub struct Ran {
+    pub rec: Listener,
+    pub taken: usize,
+    pub heard: Heard,
+}
+
+fn push(past: u32, bit: u8) -> u32
+    requires { ⌜ bit < 2 ⌝ }
+    ensures { λ r. ⌜ r ≡ pushed past bit ⌝ }
+{
+    past / 2 + bit as u32 * 2147483648
+}
+
+fn one_more(heard: u32) -> u32
+    requires { ⌜ heard ≤ 30 ⌝ }
+    ensures { λ r. ⌜ r ≡ more heard ⌝ }
+{
+    if heard < 30 { heard + 1 } else { heard }
+}
+
+fn ends_cj(past: u32, heard: u32) -> bool
+    ensures { λ r. ⌜ r ≡ isCj past heard ⌝ }
+{
+    if past / 4 == 537395712 {
+        heard == 30
+    } else {
+        false
+    }
+}
+
+fn octet_heard(past: u32) -> u8
+    ensures { λ r. ⌜ r ≡ octetOf past ⌝ }
+{
+    (past / 8388608 % 256) as u8
+}
+
+fn turn_to(place: u32, act: u32) -> Turned
+    ensures { λ r. ⌜ r ≡ go place act ⌝ }
+{
+    Turned {
+        place: place,
+        act: act,
+    }
+}
+
+fn hunt(before: u32, bit: u8) -> u32
+    ensures { λ r. ⌜ r ≡ hunted before bit ⌝ }
+{
+    if bit == 0 {
+        if before / 4194304 == 1023 { 1 } else { 0 }
+    } else {
+        0
+    }
+}
+
+fn end_sync(past: u32) -> Turned
+    ensures { λ r. ⌜ r ≡ synced past ⌝ }
+{
+    let ten = past / 4194304;
+    if ten == 512 {
+        return turn_to(10, 1);
+    }
+    if ten == 960 {
+        return turn_to(10, 2);
+    }
+    turn_to(0, 0)
+}
+
+fn at_boundary(bit: u8) -> Turned
+    ensures { λ r. ⌜ r ≡ bounded bit ⌝ }
+{
+    if bit == 0 {
+        return turn_to(11, 0);
+    }
+    turn_to(20, 0)
+}
+
+fn at_stop(past: u32, len: u8, bit: u8) -> Turned
+    ensures { λ r. ⌜ r ≡ stopped past len bit ⌝ }
+{
+    if bit == 0 {
+        return turn_to(0, 18);
+    }
+    if octets::is_bad(octet_heard(past)) {
+        return turn_to(0, 19);
+    }
+    if len == 64 {
+        return turn_to(0, 20);
+    }
+    turn_to(10, 3)
+}
+
+fn at_end(place: u32, before: u32, bit: u8) -> Turned
+    ensures { λ r. ⌜ r ≡ ended place before bit ⌝ }
+{
+    if bit == 0 {
+        return turn_to(hunt(before, bit), 29);
+    }
+    if place < 28 {
+        return turn_to(place + 1, 0);
+    }
+    turn_to(0, 4)
+}
+
+fn turn(place: u32, before: u32, past: u32, len: u8, bit: u8) -> Turned
+    ensures { λ r. ⌜ r ≡ turned place before past len bit ⌝ }
+{
+    if place == 0 {
+        return turn_to(hunt(before, bit), 0);
+    }
+    if place < 9 {
+        return turn_to(place + 1, 0);
+    }
+    if place == 9 {
+        return end_sync(past);
+    }
+    if place == 10 {
+        return at_boundary(bit);
+    }
+    if place < 19 {
+        return turn_to(place + 1, 0);
+    }
+    if place == 19 {
+        return at_stop(past, len, bit);
+    }
+    at_end(place, before, bit)
+}
+
+// A bit turns the ear and says what is to be done.
+fn step(ear: Ear, len: u8, bit: u8) -> Stepped
+    requires { ⌜ EarFits ear × (bit < 2) ⌝ }
+    ensures { λ r. ⌜ r ≡ stepped ear len bit ⌝ }
+{
+    let before = ear.past;
+    let place = ear.place;
+    let past = push(before, bit);
+    let heard = one_more(ear.heard);
+    if ends_cj(past, heard) {
+        return Stepped {
+            ear: Ear {
+                past: past,
+                heard: heard,
+                place: 0,
+            },
+            act: 5,
+        };
+    }
+    let t = turn(place, before, past, len, bit);
+    Stepped {
+        ear: Ear {
+            past: past,
+            heard: heard,
+            place: t.place,
+        },
+        act: t.act,
+    }
+}
+
+fn start(m: Message, kind: u8) -> Message
+    ensures { λ r. ⌜ r ≡ started m kind ⌝ }
+{
+    let mut next = m;
+    next.kind = kind;
+    next.len = 0;
+    next
+}
+
+fn put(m: Message, b: u8) -> Message
+    requires { ⌜ m .len < 64 ⌝ }
+    ensures { λ r. ⌜ r ≡ stored m b ⌝ }
+{
+    let n = m.len;
+    let at = n as usize;
+    let mut next = m;
+    next.octets[at] = b;
+    next.len = n + 1;
+    next
+}
+
+// What an act does to the message being heard.
+fn change(m: Message, act: u32, past: u32) -> Message
+    requires { ⌜ ActFits act (m .len) ⌝ }
+    ensures { λ r. ⌜ r ≡ changed m act past ⌝ }
+{
+    if act == 1 {
+        return start(m, 1);
+    }
+    if act == 2 {
+        return start(m, 2);
+    }
+    if act == 3 {
+        return put(m, octet_heard(past));
+    }
+    m
+}
+
+// The first n octets, or all where there are no more.
+fn first(octets: &[u8], n: usize) -> &[u8]
+    ensures { λ r. ⌜ now r ≡ take n (now (octets .entry)) ⌝ }
+{
+    if n <= octets.len() {
+        return &octets[..n];
+    }
+    octets
+}
+
+// Whether reading the octets gives no refusal.
+fn readable(octets: &[u8]) -> bool
+    ensures { λ r. ⌜ r ≡ eqb (listFault Purpose.Reading (now (octets .entry))) 0 ⌝ }
+{
+    let verdict = octets::test(Purpose::Reading, octets);
+    match verdict {
+        Verdict::Accepted => true,
+        Verdict::Refused(_) => false,
+    }
+}
+
+// Whether a menu is agreed, where `last` was reported just before it.
+fn agree(m: Message, last: Message) -> bool
+    requires { ⌜ MessageFits m × MessageFits last ⌝ }
+    ensures { λ r. ⌜ r ≡ agreed m last ⌝ }
+{
+    let octets = m.octets;
+    let before = last.octets;
+    let heard = first(&octets, m.len as usize);
+    if readable(heard) {
+        if m.kind == last.kind {
+            return octets::same(heard, first(&before, last.len as usize));
+        }
+        return false;
+    }
+    false
+}
+
+fn report(m: Message, last: Message) -> Heard
+    requires { ⌜ MessageFits m × MessageFits last ⌝ }
+    ensures { λ r. ⌜ says r ≡ reported m last ⌝ }
+{
+    let kind = m.kind;
+    if kind == 1 {
+        return Heard::Ci;
+    }
+    Heard::Menu(agree(m, last))
+}
+
+// A refusal that the framing gives: 2, 3, 4 or 13.
+fn refusal_of(act: u32) -> Refusal
+    requires { ⌜ Refuses act ⌝ }
+    ensures { λ r. ⌜ number r ≡ act - 16 ⌝ }
+{
+    if act == 18 {
+        return Refusal::StopBitZero;
+    }
+    if act == 19 {
+        return Refusal::BadOctet;
+    }
+    if act == 20 {
+        return Refusal::TooManyOctets;
+    }
+    Refusal::CutShort
+}
+
+// What an act tells.
+fn tell(act: u32, m: Message, last: Message) -> Heard
+    requires { ⌜ ActFits act (m .len) × MessageFits m × MessageFits last ⌝ }
+    ensures { λ r. ⌜ says r ≡ told act m last ⌝ }
+{
+    if act < 4 {
+        return Heard::Nothing;
+    }
+    if act == 4 {
+        return report(m, last);
+    }
+    if act == 5 {
+        return Heard::Cj;
+    }
+    Heard::Refused(refusal_of(act))
+}
+
+// What an act does to the record and tells.
+fn act_on(rec: Listener, s: Stepped) -> Answer
+    requires { ⌜ ActFits (s .act) (rec .msg .len) × Fits rec ⌝ }
+    ensures { λ r. ⌜ Hears (acted rec s) r ⌝ }
+{
+    let ear = s.ear;
+    let act = s.act;
+    let msg = rec.msg;
+    let last = rec.last;
+    let heard = tell(act, msg, last);
+    if act == 4 {
+        return Answer {
+            rec: Listener {
+                ear: ear,
+                msg: msg,
+                last: msg,
+            },
+            heard: heard,
+        };
+    }
+    let next = change(msg, act, ear.past);
+    Answer {
+        rec: Listener {
+            ear: ear,
+            msg: next,
+            last: last,
+        },
+        heard: heard,
+    }
+}
+
+fn message_fits(kind: u8, len: u8) -> bool
+    ensures { λ r. ⌜ r ≡ messageInRange kind len ⌝ }
+{
+    if kind <= 2 { len <= 64 } else { false }
+}
+
+fn ear_fits(ear: Ear) -> bool
+    ensures { λ r. ⌜ r ≡ earInRange ear ⌝ }
+{
+    if ear.heard <= 30 {
+        ear.place <= 28
+    } else {
+        false
+    }
+}
+
+// The ranges of docs/RANGES.md.
+fn fits(rec: Listener) -> bool
+    ensures { λ r. ⌜ r ≡ inRange rec ⌝ }
+{
+    let ear = rec.ear;
+    let msg = rec.msg;
+    let last = rec.last;
+    if ear_fits(ear) {
+        if message_fits(msg.kind, msg.len) {
+            return message_fits(last.kind, last.len);
+        }
+        return false;
+    }
+    false
+}
+
+// A bit, where the record is in range.
+fn hear_in(rec: Listener, bit: u8) -> Answer
+    requires { ⌜ Fits rec ⌝ }
+    ensures { λ r. ⌜ Hears (heardIn rec bit) r ⌝ }
+{
+    if 1 < bit {
+        return Answer {
+            rec: rec,
+            heard: Heard::Refused(Refusal::NotABit),
+        };
+    }
+    let ear = rec.ear;
+    let msg = rec.msg;
+    act_on(rec, step(ear, msg.len, bit))
+}
+
+// A bit: what it reports, and the record after it.
+pub fn hear(rec: Listener, bit: u8) -> Answer
+    ensures { λ r. ⌜ Hears (heard rec bit) r ⌝ }
+{
+    if fits(rec) {
+        return hear_in(rec, bit);
+    }
+    Answer {
+        rec: rec,
+        heard: Heard::Refused(Refusal::BadRecord),
+    }
+}
+
+fn no_message() -> Message
+    ensures { λ r. ⌜ r ≡ empty ⌝ }
+{
+    Message {
+        kind: 0,
+        len: 0,
+        octets: [0u8; 64],
+    }
+}
+
+// A record of a line on which nothing was heard.
+pub fn fresh_line() -> Listener
+    ensures { λ r. ⌜ r ≡ fresh ⌝ }
+{
+    Listener {
+        ear: Ear {
+            past: 0,
+            heard: 0,
+            place: 0,
+        },
+        msg: no_message(),
+        last: no_message(),
+    }
+}
+
+// What is left behind where bits were heard up to a report: the act's own.
+fn finish(ear: Ear, msg: Message, last: Message, act: u32, taken: usize) -> Ran
+    requires { ⌜ ActFits act (msg .len) × (3 < act) × MessageFits msg × MessageFits last ⌝ }
+    ensures { λ r. ⌜ HearsMany (finished ear msg last act taken) r ⌝ }
+{
+    let heard = tell(act, msg, last);
+    if act == 4 {
+        return Ran {
+            rec: Listener {
+                ear: ear,
+                msg: msg,
+                last: msg,
+            },
+            taken: taken,
+            heard: heard,
+        };
+    }
+    Ran {
+        rec: Listener {
+            ear: ear,
+            msg: msg,
+            last: last,
+        },
+        taken: taken,
+        heard: heard,
+    }
+}
+
+// Bits up to the first that reports something, where the record is in range. The message reported last stands still meanwhile.
+fn run(rec: Listener, bits: &[u8]) -> Ran
+    requires { ⌜ Fits rec ⌝ }
+    ensures { λ r. ⌜ HearsMany (listened rec (now (bits .entry)) 0) r ⌝ }
+{
+    let mut ear = rec.ear;
+    let mut msg = rec.msg;
+    let last = rec.last;
+    let mut i: usize = 0;
+    while i < bits.len() {
+        let bit = bits[i];
+        i += 1;
+        if 1 < bit {
+            return Ran {
+                rec: Listener {
+                    ear: ear,
+                    msg: msg,
+                    last: last,
+                },
+                taken: i,
+                heard: Heard::Refused(Refusal::NotABit),
+            };
+        }
+        let s = step(ear, msg.len, bit);
+        ear = s.ear;
+        let act = s.act;
+        if 3 < act {
+            return finish(ear, msg, last, act, i);
+        }
+        if act != 0 {
+            msg = change(msg, act, ear.past);
+        }
+    }
+    Ran {
+        rec: Listener {
+            ear: ear,
+            msg: msg,
+            last: last,
+        },
+        taken: i,
+        heard: Heard::Nothing,
+    }
+}
+
+// Many bits: hears them up to the first that reports something, and answers how many were taken.
+pub fn hear_many(rec: Listener, bits: &[u8]) -> Ran
+    ensures { λ r. ⌜ HearsMany (heardMany rec (now (bits .entry))) r ⌝ }
+{
+    if fits(rec) {
+        return run(rec, bits);
+    }
+    Ran {
+        rec: rec,
+        taken: 0,
+        heard: Heard::Refused(Refusal::BadRecord),
+    }
+}
