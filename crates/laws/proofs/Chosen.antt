@@ -1,10 +1,24 @@
--- What holds of both sides of a choice holds of the choice, where each side may use its test.
+-- What a test says of a choice, and of the two tests that it joins.
 -- Assumes nothing.
+use Prim.Native.Nat.{ℕ}
+use native.Mathlib.Omega.{arith}
 use mathlib.Core.Path.{_≡_, refl}
 use mathlib.Core.Bool.{Bool, true, false}
-use Rattle.laws.specs.Choice.{choose}
+use Rattle.laws.specs.Choice.{choose, both}
 
+-- what holds of both sides of a choice holds of the choice, where each side may use its test
 pub chosen : {A : Type 0} (P : A → Type 0) (t : Bool) (x y : A) → (t ≡ true → P x) → (t ≡ false → P y) → P (choose t x y)
 unfolding choose
 chosen P true x y a b = a refl
 chosen P false x y a b = b refl
+
+pub both-true : (a b : Bool) → both a b ≡ true → (a ≡ true) × (b ≡ true)
+unfolding both
+both-true true b h = (refl, h)
+both-true false b h = let z : _≡_ {A = Bool} true false = cc in (cc, cc)
+
+pub both-false : (a b : Bool) → both a b ≡ false → a ≡ true → b ≡ true → ⊥
+unfolding both
+both-false true true h x y = absurd (let z : _≡_ {A = ℕ} 0 1 = cc in let w : ⊥ = omega arith in w)
+both-false true false h x y = absurd (let z : _≡_ {A = ℕ} 0 1 = cc in let w : ⊥ = omega arith in w)
+both-false false b h x y = absurd (let z : _≡_ {A = ℕ} 0 1 = cc in let w : ⊥ = omega arith in w)

@@ -8,7 +8,7 @@ use mathlib.Core.Logic.{_⊎_, inl, inr}
 use borrow.Author.Tests.{ltb-true, ltb-false, leb-true, le-leb, eqb-true, eqb-false}
 use lib.Dec.{ltb, leb, eqb, lit<, lit≤}
 use Rattle.laws.specs.Choice.{choose, both}
-use Rattle.laws.proofs.Chosen.{chosen}
+use Rattle.laws.proofs.Chosen.{chosen, both-true}
 use Rattle.octets.specs.declared.Kind.the-variants.{Ci, Menu}
 use Rattle.octets.specs.Octets.{bad}
 use Rattle.sequences.specs.Tens.{syncTen}
@@ -18,23 +18,22 @@ use Rattle.listening.specs.declared.Listener.{Listener}
 use Rattle.listening.specs.declared.Turned.{Turned}
 use Rattle.listening.specs.declared.Stepped.{Stepped}
 use Rattle.listening.specs.Framing.{pushed, more, lastTen, octetOf, isCj, Refuses, ActFits, go, hunted, synced, bounded, stopped, ended, turned, stepped}
-use Rattle.listening.specs.Record.{EarFits, MessageFits, Fits, inRange, fresh}
+use Rattle.listening.specs.Record.{EarFits, MessageFits, Fits, partsInRange, inRange, fresh}
 use Rattle.listening.specs.Hearing.{Outcome, started, stored, changed, acted, refuses, heardIn, heard}
 
-both-true : (a b : Bool) → both a b ≡ true → (a ≡ true) × (b ≡ true)
-unfolding both
-both-true true b h = (refl, h)
-both-true false b h = let z : _≡_ {A = Bool} true false = cc in (cc, cc)
+pub parts-ear : (ear : Ear) (kind len lastKind lastLen : ℕ) → partsInRange ear kind len lastKind lastLen ≡ true → EarFits ear
+parts-ear ear kind len lastKind lastLen h =
+    let parts = both-true _ _ (both-true _ _ h .0) in
+    record { heard = leb-true _ _ (parts .0); place = leb-true _ _ (parts .1) }
 
 pub range-fits : (rec : Listener) → inRange rec ≡ true → Fits rec
 range-fits rec h =
     let parts = both-true _ _ h in
-    let ear = both-true _ _ (parts .0) in
     let messages = both-true _ _ (parts .1) in
     let msg = both-true _ _ (messages .0) in
     let last = both-true _ _ (messages .1) in
     record {
-      ear = record { heard = leb-true _ _ (ear .0); place = leb-true _ _ (ear .1) };
+      ear = parts-ear (rec .ear) (rec .msg .kind) (rec .msg .len) (rec .last .kind) (rec .last .len) h;
       msg = record { kind = leb-true _ _ (msg .0); len = leb-true _ _ (msg .1) };
       last = record { kind = leb-true _ _ (last .0); len = leb-true _ _ (last .1) };
     }

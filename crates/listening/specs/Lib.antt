@@ -1,3 +1,4 @@
 pub mod Framing
 pub mod Record
 pub mod Hearing
+pub mod Parts

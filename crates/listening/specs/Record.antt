@@ -15,11 +15,13 @@ earInRange ear = both (leb (ear .heard) 30) (leb (ear .place) 28)
 abbrev pub messageInRange : ℕ → ℕ → Bool
 messageInRange kind len = both (leb kind 2) (leb len 64)
 
+-- what a bit looks at: the ear, and the kind and the count of octets of both messages
+abbrev pub partsInRange : Ear → ℕ → ℕ → ℕ → ℕ → Bool
+partsInRange ear kind len lastKind lastLen = both (earInRange ear) (both (messageInRange kind len) (messageInRange lastKind lastLen))
+
 -- "listening record .. with a field outside its range" is refused with 10
 abbrev pub inRange : Listener → Bool
-inRange rec =
-    both (earInRange (rec .ear))
-    (both (messageInRange (rec .msg .kind) (rec .msg .len)) (messageInRange (rec .last .kind) (rec .last .len)))
+inRange rec = partsInRange (rec .ear) (rec .msg .kind) (rec .msg .len) (rec .last .kind) (rec .last .len)
 
 -- the same, as facts
 pub record EarFits (ear : Ear) : Type 0 where

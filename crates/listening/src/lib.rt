@@ -12,7 +12,8 @@ ghost use lib.ListN.{length, take, drop, getD};
 ghost use Rattle.octets.specs.Refusals.{number};
 ghost use Rattle.octets.specs.Lists.{listFault};
 ghost use Rattle.listening.specs.Framing.{pushed, more, isCj, octetOf, Refuses, ActFits, go, hunted, synced, bounded, stopped, ended, turned, stepped};
-ghost use Rattle.listening.specs.Record.{EarFits, MessageFits, Fits, earInRange, messageInRange, inRange, empty, fresh};
+ghost use Rattle.listening.specs.Record.{EarFits, Fits, earInRange, messageInRange, partsInRange, inRange, empty, fresh};
+ghost use Rattle.listening.specs.Parts.{glanced, stay, settledMessage, settled};
 ghost use Rattle.listening.specs.Hearing.{says, started, stored, changed, agreed, reported, told, acted, heardIn, heard, listened, heardMany, Hears, HearsMany, finished};
 
 // What was heard last: the newest bit on top, how many bits were heard up to 30, and where in the framing the next bit is.
@@ -246,7 +247,7 @@ fn put(m: Message, b: u8) -> Message
 
 // What an act does to the message being heard.
 fn change(m: Message, act: u32, past: u32) -> Message
-    requires { ⌜ ActFits act (m .len) ⌝ }
+    requires { ⌜ (act ≡ 3 → m .len < 64) ⌝ }
     ensures { λ r. ⌜ r ≡ changed m act past ⌝ }
 {
     if act == 1 {
@@ -284,7 +285,6 @@ fn readable(octets: &[u8]) -> bool
 
 // Whether a menu is agreed, where `last` was reported just before it.
 fn agree(m: Message, last: Message) -> bool
-    requires { ⌜ MessageFits m × MessageFits last ⌝ }
     ensures { λ r. ⌜ r ≡ agreed m last ⌝ }
 {
     let octets = m.octets;
@@ -300,7 +300,6 @@ fn agree(m: Message, last: Message) -> bool
 }
 
 fn report(m: Message, last: Message) -> Heard
-    requires { ⌜ MessageFits m × MessageFits last ⌝ }
     ensures { λ r. ⌜ says r ≡ reported m last ⌝ }
 {
     let kind = m.kind;
@@ -329,7 +328,7 @@ fn refusal_of(act: u32) -> Refusal
 
 // What an act tells.
 fn tell(act: u32, m: Message, last: Message) -> Heard
-    requires { ⌜ ActFits act (m .len) × MessageFits m × MessageFits last ⌝ }
+    requires { ⌜ ActFits act (m .len) ⌝ }
     ensures { λ r. ⌜ says r ≡ told act m last ⌝ }
 {
     if act < 4 {
@@ -346,7 +345,7 @@ fn tell(act: u32, m: Message, last: Message) -> Heard
 
 // What an act does to the record and tells.
 fn act_on(rec: Listener, s: Stepped) -> Answer
-    requires { ⌜ ActFits (s .act) (rec .msg .len) × Fits rec ⌝ }
+    requires { ⌜ ActFits (s .act) (rec .msg .len) ⌝ }
     ensures { λ r. ⌜ Hears (acted rec s) r ⌝ }
 {
     let ear = s.ear;
@@ -391,20 +390,26 @@ fn ear_fits(ear: Ear) -> bool
     }
 }
 
-// The ranges of docs/RANGES.md.
+// The ranges of docs/RANGES.md, of what a bit looks at.
+fn parts_fit(ear: Ear, kind: u8, len: u8, last_kind: u8, last_len: u8) -> bool
+    ensures { λ r. ⌜ r ≡ partsInRange ear kind len «last_kind» «last_len» ⌝ }
+{
+    if ear_fits(ear) {
+        if message_fits(kind, len) {
+            return message_fits(last_kind, last_len);
+        }
+        return false;
+    }
+    false
+}
+
 fn fits(rec: Listener) -> bool
     ensures { λ r. ⌜ r ≡ inRange rec ⌝ }
 {
     let ear = rec.ear;
     let msg = rec.msg;
     let last = rec.last;
-    if ear_fits(ear) {
-        if message_fits(msg.kind, msg.len) {
-            return message_fits(last.kind, last.len);
-        }
-        return false;
-    }
-    false
+    parts_fit(ear, msg.kind, msg.len, last.kind, last.len)
 }
 
 // A bit, where the record is in range.
@@ -463,7 +468,7 @@ pub fn fresh_line() -> Listener
 
 // What is left behind where bits were heard up to a report: the act's own.
 fn finish(ear: Ear, msg: Message, last: Message, act: u32, taken: usize) -> Ran
-    requires { ⌜ ActFits act (msg .len) × (3 < act) × MessageFits msg × MessageFits last ⌝ }
+    requires { ⌜ ActFits act (msg .len) ⌝ }
     ensures { λ r. ⌜ HearsMany (finished ear msg last act taken) r ⌝ }
 {
     let heard = tell(act, msg, last);
@@ -544,5 +549,63 @@ pub fn hear_many(rec: Listener, bits: &[u8]) -> Ran
         rec: rec,
         taken: 0,
         heard: Heard::Refused(Refusal::BadRecord),
+    }
+}
+
+fn keep(ear: Ear, act: u32) -> Stepped
+    ensures { λ r. ⌜ r ≡ stay ear act ⌝ }
+{
+    Stepped { ear: ear, act: act }
+}
+
+// A bit in two parts, for a host that lends the record: first what the ear and four numbers tell ..
+pub fn glance(ear: Ear, kind: u8, len: u8, last_kind: u8, last_len: u8, bit: u8) -> Stepped
+    ensures { λ r. ⌜ r ≡ glanced ear kind len «last_kind» «last_len» bit ⌝ }
+{
+    if parts_fit(ear, kind, len, last_kind, last_len) {
+        if 1 < bit {
+            return keep(ear, 17);
+        }
+        return step(ear, len, bit);
+    }
+    keep(ear, 26)
+}
+
+fn settle_message(m: Message, act: u32, past: u32) -> Message
+    ensures { λ r. ⌜ r ≡ settledMessage m act past ⌝ }
+{
+    if act == 3 {
+        if m.len < 64 {
+            return change(m, act, past);
+        }
+        return m;
+    }
+    change(m, act, past)
+}
+
+// .. and then, where it asks for that, what is done with the messages.
+pub fn settle(rec: Listener, act: u32) -> Answer
+    ensures { λ r. ⌜ Hears (settled rec act) r ⌝ }
+{
+    let ear = rec.ear;
+    let msg = rec.msg;
+    let last = rec.last;
+    if act == 4 {
+        return Answer {
+            rec: Listener {
+                ear: ear,
+                msg: msg,
+                last: msg,
+            },
+            heard: report(msg, last),
+        };
+    }
+    Answer {
+        rec: Listener {
+            ear: ear,
+            msg: settle_message(msg, act, ear.past),
+            last: last,
+        },
+        heard: Heard::Nothing,
     }
 }

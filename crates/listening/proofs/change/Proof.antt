@@ -23,7 +23,7 @@ octet-heard-requires : tie.Need-octet-heard-requires
 octet-heard-requires c κs = search needs
 
 put-requires : tie.Need-put-requires
-put-requires c κs = c .before .before .before .before .pre .room (c .before .if3 .taken)
+put-requires c κs = c .before .before .before .before .pre (c .before .if3 .taken)
 
 returns-3 : tie.Need-returns-3
 unfolding choose changed

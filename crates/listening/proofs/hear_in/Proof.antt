@@ -17,7 +17,7 @@ act-on-requires : tie.Need-act-on-requires
 act-on-requires c κs =
     let s = c .before .before .before .before in
     let rec = s .args .rec in
-    (rw (c .step .ensures) (stepped-fits (rec .ear) (rec .msg .len) (s .args .bit) (s .pre .ear) (s .pre .msg .len) .act), s .pre)
+    rw (c .step .ensures) (stepped-fits (rec .ear) (rec .msg .len) (s .args .bit) (s .pre .ear) (s .pre .msg .len) .act)
 
 returns-2 : tie.Need-returns-2
 unfolding choose heardIn

@@ -66,7 +66,7 @@ finish-requires : tie.Need-finish-requires Inv-loop μ-loop
 finish-requires c κs =
     let t = c .before .before in
     let l = t .before .before .before .before in
-    (fitting t .act, c .if2 .taken, l .loop .inv .0 .msg, l .loop .inv .0 .last)
+    fitting t .act
 
 returns-2 : tie.Need-returns-2 Inv-loop μ-loop
 returns-2 c =
@@ -76,7 +76,7 @@ returns-2 c =
     rw (l .loop .inv .1 ∙ listened-told (held l) s (l .loop .i) (l .loop .i) (search needs) (search needs) (t .step .result) (t .step .ensures) (c .before .if2 .taken)) (c .finish .ensures)
 
 change-requires : tie.Need-change-requires Inv-loop μ-loop
-change-requires c κs = fitting (c .before .before .before) .act
+change-requires c κs = fitting (c .before .before .before) .act .room
 
 loop-less : tie.Need-loop-less Inv-loop μ-loop
 loop-less c = search needs

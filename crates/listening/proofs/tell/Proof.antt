@@ -22,7 +22,7 @@ unfolding choose told
 returns-3 c = simp (eq-eqb _ _ (c .if3 .taken), ne-eqb _ _ (c .before .if2 .left), le-ltb _ _ (c .before .before .if1 .left))
 
 refusal-of-requires : tie.Need-refusal-of-requires
-refusal-of-requires c κs = c .before .before .before .pre .0 .refuses (omega (arith, c .if3 .left, c .before .if2 .left))
+refusal-of-requires c κs = c .before .before .before .pre .refuses (omega (arith, c .if3 .left, c .before .if2 .left))
 
 returns-4 : tie.Need-returns-4
 unfolding choose told

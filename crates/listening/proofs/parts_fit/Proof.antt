@@ -1,7 +1,7 @@
 use Rattle.laws.specs.Choice.{both}
 use borrow.Author.Needs.{needs}
-use Rattle.listening.proofs.fits.Statement.{statement}
-use Rattle.listening.proofs.fits.Tie as tie
+use Rattle.listening.proofs.parts_fit.Statement.{statement}
+use Rattle.listening.proofs.parts_fit.Tie as tie
 
 ear-fits-requires : tie.Need-ear-fits-requires
 ear-fits-requires c κs = search needs
@@ -24,8 +24,8 @@ returns-3 : tie.Need-returns-3
 unfolding both
 returns-3 c = simp (c .if1 .left, ← c .before .ear-fits .ensures)
 
-pub fits-spec : {M : Type 1} → statement M
-fits-spec =
+pub parts-fit-spec : {M : Type 1} → statement M
+parts-fit-spec =
     tie.close
     (tie.spec
     ear-fits-requires
