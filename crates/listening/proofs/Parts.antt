@@ -5,18 +5,20 @@ use native.Mathlib.Omega.{arith}
 use mathlib.Core.Path.{_≡_, refl, sym, ap, _∙_}
 use mathlib.Core.Bool.{Bool, true, false}
 use borrow.Author.Tests.{lt-ltb, le-ltb, ltb-true, ltb-false, eq-eqb, ne-eqb, eqb-true, eqb-false}
-use lib.Dec.{ltb, eqb}
+use mathlib.Core.Logic.{⊎-elim}
+use lib.Dec.{ltb, eqb, lit≤}
 use Rattle.laws.specs.Choice.{choose, both}
 use Rattle.laws.proofs.Chosen.{chosen, both-true, both-false}
+use Rattle.listening.specs.declared.Ear.{Ear}
 use Rattle.listening.specs.declared.Message.{Message}
 use Rattle.listening.specs.declared.Listener.{Listener}
 use Rattle.listening.specs.declared.Stepped.{Stepped}
 use Rattle.listening.specs.Framing.{ActFits, stepped}
-use Rattle.listening.specs.Record.{Fits, inRange}
+use Rattle.listening.specs.Record.{Fits, partsInRange, inRange}
 use Rattle.listening.specs.Hearing.{Outcome, changed, told, acted, refuses, heardIn, heard}
-use Rattle.listening.specs.Parts.{stay, glanced, settledMessage, settled, touches, lightlyTold, withEar, inParts}
+use Rattle.listening.specs.Parts.{Told16, stay, glanced, settledMessage, settled, touches, lightlyTold, withEar, inParts}
 use Rattle.listening.proofs.Acts.{changed-not}
-use Rattle.listening.proofs.Ranges.{range-fits, stepped-fits}
+use Rattle.listening.proofs.Ranges.{parts-ear, parts-len, range-fits, stepped-fits}
 
 -- where there is room, an act changes the message as it asks
 settled-changed : (m : Message) (act past : ℕ) → (act ≡ 3 → m .len < 64) → settledMessage m act past ≡ changed m act past
@@ -60,6 +62,22 @@ module _ (rec : Listener) (s : Stepped) (fits : ActFits (s .act) (rec .msg .len)
       chosen (λ (o : Outcome). o ≡ acted rec s) (touches (s .act)) (settled (withEar rec (s .ear)) (s .act)) _
       (λ t. let both-sides = both-true (ltb 0 (s .act)) (ltb (s .act) 5) t in settled-acted (ltb-true 0 (s .act) (both-sides .0)) (ltb-true (s .act) 5 (both-sides .1)))
       (λ f. light-acted (λ low high. both-false (ltb 0 (s .act)) (ltb (s .act) 5) f (lt-ltb 0 (s .act) low) (lt-ltb (s .act) 5 high)))
+
+-- a refusal stands 16 above its number
+refuses-told : (act len : ℕ) → ActFits act len → Told16 act
+refuses-told act len fits = record { least = λ h. ⊎-elim (λ e. omega (arith, e)) (⊎-elim (λ e. omega (arith, e)) (⊎-elim (λ e. omega (arith, e)) (λ e. omega (arith, e)))) (fits .refuses h); most = by-five (ltb 5 act) refl }
+  where
+    by-five : (t : Bool) → ltb 5 act ≡ t → act ≤ 29
+    by-five true e = ⊎-elim (λ r. omega (arith, r)) (⊎-elim (λ r. omega (arith, r)) (⊎-elim (λ r. omega (arith, r)) (λ r. omega (arith, r)))) (fits .refuses (ltb-true 5 act e))
+    by-five false e = omega (arith, ltb-false 5 act e)
+
+pub glanced-told : (ear : Ear) (kind len lastKind lastLen bit : ℕ) → Told16 (glanced ear kind len lastKind lastLen bit .act)
+unfolding glanced
+glanced-told ear kind len lastKind lastLen bit =
+    chosen (λ (s : Stepped). Told16 (s .act)) (partsInRange ear kind len lastKind lastLen) _ (stay ear 26)
+    (λ r. chosen (λ (s : Stepped). Told16 (s .act)) (ltb 1 bit) (stay ear 17) (stepped ear len bit) (λ _. record { least = λ _. lit≤ tt; most = lit≤ tt })
+    (λ _. refuses-told _ len (stepped-fits ear len bit (parts-ear ear kind len lastKind lastLen r) (parts-len ear kind len lastKind lastLen r) .act)))
+    (λ _. record { least = λ _. lit≤ tt; most = lit≤ tt })
 
 module _ (rec : Listener) (bit : ℕ) where
   abbrev look : Stepped

@@ -26,6 +26,9 @@ parts-ear ear kind len lastKind lastLen h =
     let parts = both-true _ _ (both-true _ _ h .0) in
     record { heard = leb-true _ _ (parts .0); place = leb-true _ _ (parts .1) }
 
+pub parts-len : (ear : Ear) (kind len lastKind lastLen : ℕ) → partsInRange ear kind len lastKind lastLen ≡ true → len ≤ 64
+parts-len ear kind len lastKind lastLen h = leb-true _ _ (both-true _ _ (both-true _ _ (both-true _ _ h .1) .0) .1)
+
 pub range-fits : (rec : Listener) → inRange rec ≡ true → Fits rec
 range-fits rec h =
     let parts = both-true _ _ h in

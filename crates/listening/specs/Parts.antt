@@ -1,5 +1,5 @@
 -- A bit in two parts, for a host that lends its record: what the ear and four numbers tell, and what is then done with the messages.
-use Prim.Native.Nat.{ℕ, _-_}
+use Prim.Native.Nat.{ℕ, _-_, _<_, _≤_}
 use mathlib.Core.Bool.{Bool}
 use lib.Dec.{ltb, eqb}
 use Rattle.laws.specs.Choice.{choose, both}
@@ -38,6 +38,11 @@ touches act = both (ltb 0 act) (ltb act 5)
 -- what the others tell
 unfoldable pub lightlyTold : ℕ → Told
 lightlyTold act = choose (ltb act tellCj) silence (choose (eqb act tellCj) cj (refusal (act - 16)))
+
+-- the acts that a glance gives: one above 5 is a refusal, 16 above its number
+pub record Told16 (act : ℕ) : Type 0 where
+  pub least : 5 < act → 16 ≤ act
+  pub most : act ≤ 29
 
 -- the two parts together
 abbrev pub withEar : Listener → Ear → Listener

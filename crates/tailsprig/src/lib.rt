@@ -1,11 +1,19 @@
 // The library as a C program sees it: numbers, byte slices, and a refusal n as the answer -n. include/tailsprig.h is its manual.
+use listening::Ear;
+use listening::Heard;
+use listening::Listener;
 use octets::Kind;
 use octets::Refusal;
 use sequences::Wrote;
 ghost use mathlib.Core.Path.{_≡_};
 ghost use lib.IntN.{pos, negℤ};
+ghost use Rattle.listening.specs.Record.{fresh};
+ghost use Rattle.listening.specs.Hearing.{heard, heardMany};
+ghost use Rattle.listening.specs.Hearing as hearing;
+ghost use Rattle.listening.specs.Parts.{touches, lightlyTold, Told16};
 ghost use Rattle.octets.specs.Refusals.{number};
 ghost use Rattle.sequences.specs.Writing.{says, writtenCj};
+ghost use Rattle.tailsprig.specs.Hearing.{toldCode, lightOf, heavyOf, HearsAs, RunsAs};
 ghost use Rattle.tailsprig.specs.Codes.{code, Small, Returns, kindOf, writtenAs};
 
 fn refused(r: Refusal) -> i32
@@ -58,4 +66,129 @@ pub extern "C" fn tailsprig_write_cj(out: &mut [u8]) -> i32
     ensures { λ r. ⌜ Returns (writtenCj (now (out .entry))) r (now (out .exit)) ⌝ }
 {
     wrote(sequences::write_cj(out))
+}
+
+// What the ear and four numbers of a record, and a bit, give: the next ear, what to do with the messages and whether there is
+// anything to do, and otherwise the answer.
+struct Light {
+    ear: Ear,
+    act: u32,
+    heavy: bool,
+    code: i32,
+}
+
+struct Heavy {
+    rec: Listener,
+    code: i32,
+}
+
+// Many bits, as C gets them.
+#[repr(C)]
+pub struct Ran {
+    pub rec: Listener,
+    pub taken: usize,
+    pub code: i32,
+}
+
+fn heard_code(h: Heard) -> i32
+    ensures { λ n. ⌜ n ≡ toldCode (hearing.says h) ⌝ }
+{
+    match h {
+        Heard::Nothing => 0,
+        Heard::Ci => 1,
+        Heard::Menu(agreed) => { if agreed { 3 } else { 2 } }
+        Heard::Cj => 4,
+        Heard::Refused(r) => refused(r),
+    }
+}
+
+fn light_code(act: u32) -> i32
+    requires { ⌜ Told16 act ⌝ }
+    ensures { λ n. ⌜ n ≡ toldCode (lightlyTold act) ⌝ }
+{
+    if act < 5 {
+        return 0;
+    }
+    if act == 5 {
+        return 4;
+    }
+    0 - (act - 16) as i32
+}
+
+fn touches_messages(act: u32) -> bool
+    ensures { λ r. ⌜ r ≡ touches act ⌝ }
+{
+    if 0 < act { act < 5 } else { false }
+}
+
+fn hear_light(ear: Ear, kind: u8, len: u8, last_kind: u8, last_len: u8, bit: u8) -> Light
+    ensures { λ r. ⌜ r ≡ lightOf ear kind len «last_kind» «last_len» bit ⌝ }
+{
+    let s = listening::glance(ear, kind, len, last_kind, last_len, bit);
+    let next = s.ear;
+    let act = s.act;
+    Light {
+        ear: next,
+        act: act,
+        heavy: touches_messages(act),
+        code: light_code(act),
+    }
+}
+
+fn hear_heavy(rec: Listener, act: u32) -> Heavy
+    ensures { λ r. ⌜ r ≡ heavyOf rec act ⌝ }
+{
+    let a = listening::settle(rec, act);
+    let next = a.rec;
+    let heard = a.heard;
+    Heavy {
+        rec: next,
+        code: heard_code(heard),
+    }
+}
+
+// A record of a line on which nothing was heard.
+#[no_mangle]
+pub extern "C" fn tailsprig_fresh() -> Listener
+    ensures { λ r. ⌜ r ≡ fresh ⌝ }
+{
+    listening::fresh_line()
+}
+
+// A bit, heard into the record that the host lends. Most bits touch the ear alone; the record is copied only where a bit asks
+// for something to be done with the messages.
+#[no_mangle]
+pub extern "C" fn tailsprig_hear(rec: &mut Listener, bit: u8) -> i32
+    ensures { λ r. ⌜ HearsAs (heard (now (rec .entry)) bit) r (now (rec .exit)) ⌝ }
+{
+    let s = hear_light(
+        rec.ear,
+        rec.msg.kind,
+        rec.msg.len,
+        rec.last.kind,
+        rec.last.len,
+        bit,
+    );
+    rec.ear = s.ear;
+    if s.heavy {
+        let a = hear_heavy(*rec, s.act);
+        *rec = a.rec;
+        return a.code;
+    }
+    s.code
+}
+
+// Many bits, up to the first that reports something.
+#[no_mangle]
+pub extern "C" fn tailsprig_hear_many(rec: Listener, bits: &[u8]) -> Ran
+    ensures { λ r. ⌜ RunsAs (heardMany rec (now (bits .entry))) r ⌝ }
+{
+    let ran = listening::hear_many(rec, bits);
+    let next = ran.rec;
+    let heard = ran.heard;
+    Ran {
+        rec: next,
+        taken: ran.taken,
+        code: heard_code(heard),
+    }
 }

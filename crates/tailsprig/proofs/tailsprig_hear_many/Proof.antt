@@ -1,0 +1,21 @@
+use mathlib.Core.Path.{ap, _∙_}
+use Rattle.tailsprig.specs.Hearing.{toldCode}
+use Rattle.tailsprig.proofs.Codes.{read-answer}
+use Rattle.laws.specs.Choice.{choose}
+use borrow.Author.Needs.{needs}
+use Rattle.tailsprig.proofs.tailsprig_hear_many.Statement.{statement}
+use Rattle.tailsprig.proofs.tailsprig_hear_many.Tie as tie
+
+hear-many-requires : tie.Need-hear-many-requires
+hear-many-requires c κs = search needs
+
+heard-code-requires : tie.Need-heard-code-requires
+heard-code-requires c κs = search needs
+
+returns : tie.Need-returns
+returns c =
+    let many = c .before .before .hear-many .ensures in
+    record { answer = read-answer (c .heard-code .result) (c .heard-code .ok) ∙ c .heard-code .ensures ∙ ap toldCode (many .heard); rec = many .rec; taken = many .taken }
+
+pub tailsprig-hear-many-spec : {M : Type 1} → statement M
+tailsprig-hear-many-spec = tie.close (tie.spec hear-many-requires heard-code-requires returns)
