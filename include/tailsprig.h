@@ -68,6 +68,91 @@ int32_t tailsprig_write(uint8_t kind, const uint8_t *octets, size_t octets_len, 
 /* Writes CJ once, 30 bits, from the start of `out`, and answers 30; or refusal 6 where out_len is less than 30. */
 int32_t tailsprig_write_cj(uint8_t *out, size_t out_len);
 
+/*
+ * Listening. A host keeps one record for each line and hears every bit with it. Its numbers are the library's: a host
+ * copies and stores them, reads the message in `msg`, and changes none. A record with a number outside its range is
+ * refused with 10 and keeps its value; tailsprig_fresh and every call give records within the ranges.
+ */
+struct tailsprig_ear {
+    uint32_t past;  /* the last bits heard, the newest on top: past / 2 + bit * 2^31. Any number */
+    uint32_t heard; /* how many bits were heard, counted up to 30. 0 to 30 */
+    uint32_t place; /* where in the framing the next bit is. 0 to 28:
+                         0         hunting
+                         1 to 9    so many bits of a sync were heard
+                         10        at an octet boundary
+                         11 to 18  the start bit and place - 11 data bits were heard
+                         19        all data bits were heard, the stop bit is next
+                         20 to 28  place - 19 of the ten 1s that end a message were heard */
+};
+
+struct tailsprig_message {
+    uint8_t kind;       /* TAILSPRIG_CI, TAILSPRIG_MENU, or 0 for none. 0 to 2 */
+    uint8_t len;        /* how many octets it has. 0 to 64 */
+    uint8_t octets[64]; /* these, then bytes of no meaning */
+};
+
+struct tailsprig_listener {
+    struct tailsprig_ear ear;
+    struct tailsprig_message msg;  /* the message being heard or heard last; empties at the next accepted sync */
+    struct tailsprig_message last; /* the message reported last, which an agreed menu equals */
+};
+
+/* What hearing a bit reports. A negative code -n is refusal n. */
+enum tailsprig_heard {
+    TAILSPRIG_HEARD_NOTHING = 0,
+    TAILSPRIG_HEARD_CI = 1,
+    TAILSPRIG_HEARD_MENU = 2,   /* a menu that is not agreed */
+    TAILSPRIG_HEARD_AGREED = 3, /* a menu that is: reading it gives no refusal, and it equals the message before it */
+    TAILSPRIG_HEARD_CJ = 4
+};
+
+/* A record in which nothing has been heard, neither 0s nor 1s. All its numbers are 0. */
+struct tailsprig_listener tailsprig_fresh(void);
+
+/*
+ * Hears one bit and answers a code of tailsprig_heard or a refusal. After 1, 2 or 3 the message is rec->msg: its octets
+ * are rec->msg.octets[0 .. rec->msg.len - 1], perhaps none. They are as they came: neither the first octet nor the
+ * categories are tested. They stay readable until the next sync is accepted, over refusals and CJ as well.
+ *
+ * Refusals, in this order:
+ *   10  a number of the record is outside its range; the record keeps its value
+ *    1  bit is neither 0 nor 1; the record keeps its value, and the byte does not count as heard
+ * With these the bit was heard, what was being heard is given up, and hunting resumes:
+ *    2  a 0 where the stop bit belongs
+ *    3  an octet with b4 = 1 and b3 or b5 = 1
+ *    4  a 65th octet
+ *   13  a 0 among the ten 1s that end a message
+ */
+int32_t tailsprig_hear(struct tailsprig_listener *rec, uint8_t bit);
+
+/* What tailsprig_hear_many answers. */
+struct tailsprig_ran {
+    struct tailsprig_listener rec; /* the record behind the last byte taken */
+    size_t taken;                  /* how many bytes were taken from the front of `bits` */
+    int32_t code;                  /* what the last of them reported, as tailsprig_hear answers it */
+};
+
+/*
+ * Hears bytes up to the first that reports something, which is taken too; where none does, all of them, with code 0.
+ * A byte that is neither 0 nor 1 reports refusal 1: it is taken and changes nothing. With refusal 10, which comes even
+ * where len is 0, no byte is taken and the record comes back as it was. The record goes and comes back by value. How
+ * the bits of a line are cut into calls makes no difference.
+ *
+ *     struct tailsprig_listener rec = tailsprig_fresh();       once for each line
+ *
+ *     while (len > 0) {                                        for the bits that have arrived
+ *         struct tailsprig_ran ran = tailsprig_hear_many(rec, bits, len);
+ *         rec = ran.rec;
+ *         bits += ran.taken;
+ *         len -= ran.taken;
+ *         if (ran.code == TAILSPRIG_HEARD_AGREED)
+ *             on_agreed_menu(rec.msg.octets, rec.msg.len);
+ *     }
+ *
+ * The loop ends: a record from tailsprig_fresh is never refused with 10, so each call takes at least one byte.
+ */
+struct tailsprig_ran tailsprig_hear_many(struct tailsprig_listener rec, const uint8_t *bits, size_t len);
+
 #ifdef __cplusplus
 }
 #endif

@@ -4,8 +4,40 @@
 pub mod plain;
 pub mod text;
 
-/// The functions as they are declared in `include/tailsprig.h`.
+/// The structs and functions as they are declared in `include/tailsprig.h`.
 pub mod c {
+    #[derive(Clone, Copy, Debug, PartialEq, Eq)]
+    #[repr(C)]
+    pub struct Ear {
+        pub past: u32,
+        pub heard: u32,
+        pub place: u32,
+    }
+
+    #[derive(Clone, Copy, Debug, PartialEq, Eq)]
+    #[repr(C)]
+    pub struct Message {
+        pub kind: u8,
+        pub len: u8,
+        pub octets: [u8; 64],
+    }
+
+    #[derive(Clone, Copy, Debug, PartialEq, Eq)]
+    #[repr(C)]
+    pub struct Listener {
+        pub ear: Ear,
+        pub msg: Message,
+        pub last: Message,
+    }
+
+    #[derive(Clone, Copy, Debug, PartialEq, Eq)]
+    #[repr(C)]
+    pub struct Ran {
+        pub rec: Listener,
+        pub taken: usize,
+        pub code: i32,
+    }
+
     extern "C" {
         pub fn tailsprig_write(
             kind: u8,
@@ -16,6 +48,9 @@ pub mod c {
             out_len: usize,
         ) -> i32;
         pub fn tailsprig_write_cj(out: *mut u8, out_len: usize) -> i32;
+        pub fn tailsprig_fresh() -> Listener;
+        pub fn tailsprig_hear(rec: *mut Listener, bit: u8) -> i32;
+        pub fn tailsprig_hear_many(rec: Listener, bits: *const u8, len: usize) -> Ran;
     }
 }
 
@@ -50,4 +85,59 @@ pub fn write(kind: Kind, octets: &[u8], copies: u16, out: &mut [u8]) -> Result<u
 pub fn write_cj(out: &mut [u8]) -> Result<usize, Refusal> {
     // SAFETY: as for `write`.
     count(unsafe { c::tailsprig_write_cj(out.as_mut_ptr(), out.len()) })
+}
+
+/// What hearing a bit reports.
+#[derive(Clone, Copy, Debug, PartialEq, Eq)]
+pub enum Report {
+    Nothing,
+    Ci,
+    Menu { agreed: bool },
+    Cj,
+    Refused(Refusal),
+}
+
+impl Report {
+    /// The report that a code of the header stands for.
+    fn of(code: i32) -> Self {
+        match code {
+            0 => Report::Nothing,
+            1 => Report::Ci,
+            2 => Report::Menu { agreed: false },
+            3 => Report::Menu { agreed: true },
+            4 => Report::Cj,
+            _ => Report::Refused(Refusal(code.unsigned_abs() as u8)),
+        }
+    }
+}
+
+/// The record of a line. Its numbers are the library's own, so they are in range and 10 is never reported.
+#[derive(Clone, Debug, PartialEq, Eq)]
+pub struct Listener(c::Listener);
+
+impl Listener {
+    /// Nothing heard.
+    pub fn fresh() -> Self {
+        // SAFETY: takes nothing and answers numbers.
+        Listener(unsafe { c::tailsprig_fresh() })
+    }
+
+    /// Hears one bit.
+    pub fn hear(&mut self, bit: u8) -> Report {
+        // SAFETY: the record is lent for the call alone.
+        Report::of(unsafe { c::tailsprig_hear(&mut self.0, bit) })
+    }
+
+    /// Hears bytes up to the first that reports something, and says how many that are; all of them where none does.
+    pub fn hear_many(&mut self, bits: &[u8]) -> (usize, Report) {
+        // SAFETY: the slice is lent for the call alone, with its length; the record goes and comes back by value.
+        let ran = unsafe { c::tailsprig_hear_many(self.0, bits.as_ptr(), bits.len()) };
+        self.0 = ran.rec;
+        (ran.taken, Report::of(ran.code))
+    }
+
+    /// The octets stored last. Right after a CI or a menu was reported they are that message's.
+    pub fn octets(&self) -> &[u8] {
+        &self.0.msg.octets[..usize::from(self.0.msg.len)]
+    }
 }

@@ -1,5 +1,8 @@
 //! The same rules in plain Rust: what the benchmark measures the proved library against.
+mod listener;
+
 use crate::{Kind, Refusal};
+pub use listener::{listing, Listener};
 
 fn is_category(octet: u8) -> bool {
     octet & 0x10 == 0

@@ -1,5 +1,5 @@
-//! The texts of the vector files: octets, bits and refusals.
-use crate::{Kind, Refusal};
+//! The texts of the vector files: octets, bits, refusals and reports.
+use crate::{Kind, Refusal, Report};
 
 /// Octets as two upper-case hex digits each, single spaces between; `-` is the empty list.
 pub fn octets(text: &str) -> Result<Vec<u8>, String> {
@@ -42,4 +42,43 @@ pub fn show_bits(bits: &[u8]) -> String {
 /// `R` and the number.
 pub fn show_refusal(refusal: Refusal) -> String {
     format!("R{}", refusal.0)
+}
+
+/// A line's bytes: `0` and `1` are bits, any other character is a byte that is no bit.
+pub fn line(text: &str) -> Vec<u8> {
+    text.bytes().map(|character| character ^ b'0').collect()
+}
+
+/// What was reported on a line so far: `N:WHAT:OCTETS` each, with `:agreed` behind an agreed menu.
+#[derive(Default)]
+pub struct Reports {
+    heard: usize,
+    shown: Vec<String>,
+}
+
+impl Reports {
+    /// Adds what a call reported, how many bytes it took and which octets it left stored.
+    pub fn add(&mut self, taken: usize, report: Report, octets: &[u8]) {
+        self.heard += taken;
+        let (what, octets, agreed) = match report {
+            Report::Nothing => return,
+            Report::Ci => ("CI".to_string(), octets, ""),
+            Report::Menu { agreed } => ("MENU".to_string(), octets, if agreed { ":agreed" } else { "" }),
+            Report::Cj => ("CJ".to_string(), &[][..], ""),
+            Report::Refused(refusal) => (show_refusal(refusal), &[][..], ""),
+        };
+        let octets: Vec<String> = octets.iter().map(|octet| format!("{octet:02X}")).collect();
+        let octets = if octets.is_empty() { "-".to_string() } else { octets.join(".") };
+        self.shown.push(format!("{}:{what}:{octets}{agreed}", self.heard - 1));
+        // A byte that is no bit was taken and not heard.
+        self.heard -= usize::from(report == Report::Refused(Refusal(1)));
+    }
+
+    /// All of them, single spaces between; `-` where nothing was reported.
+    pub fn show(&self) -> String {
+        if self.shown.is_empty() {
+            return "-".to_string();
+        }
+        self.shown.join(" ")
+    }
 }

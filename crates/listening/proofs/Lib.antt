@@ -2,3 +2,5 @@ pub mod Acts
 pub mod Many
 pub mod Parts
 pub mod Ranges
+pub mod Unique
+pub mod Words

@@ -5,7 +5,7 @@ use native.Mathlib.Numerals.{add-one}
 use native.Mathlib.Omega.{arith}
 use mathlib.Core.Path.{_≡_, refl, sym, ap, _∙_}
 use mathlib.Core.Bool.{Bool, true, false}
-use mathlib.Core.List.{List}
+use mathlib.Core.List.{List, [], _∷_}
 use borrow.Author.Tests.{lt-ltb, le-ltb, ltb-true}
 use lib.Dec.{ltb, eqb}
 use lib.ListN.{length, drop, getD, drop-of-length-le}
@@ -16,8 +16,10 @@ use Rattle.listening.specs.declared.Message.{Message}
 use Rattle.listening.specs.declared.Listener.{Listener}
 use Rattle.listening.specs.declared.Stepped.{Stepped}
 use Rattle.listening.specs.Framing.{stepped}
-use Rattle.listening.specs.Hearing.{Told, silence, ci, menu, cj, refusal, Outcome, Many, changed, agreed, reported, told, acted, refuses, heardIn, silent, listened, finished}
+use Rattle.listening.specs.Hearing.{Told, silence, ci, menu, cj, refusal, Outcome, Many, changed, agreed, reported, told, acted, refuses, heardIn, silent, listened, heardMany, finished}
+use Rattle.listening.specs.Record.{Fits}
 use Rattle.listening.proofs.Acts.{changed-not, acted-other}
+use Rattle.listening.proofs.Ranges.{fits-range, heard-in-fits}
 
 -- acts up to 3 tell nothing, and the others something
 told-quiet : (act : ℕ) (m last : Message) → act < 4 → told act m last ≡ silence
@@ -81,3 +83,32 @@ module _ (rec : Listener) (s : List ℕ) (i n : ℕ) where
     listened-told q =
         let kept = changed-not (rec .msg) (t .act) (t .ear .past) (λ z. omega (arith, q, z)) (λ z. omega (arith, q, z)) (λ z. omega (arith, q, z)) in
         listened-stop h (acted rec t) heard-step (told-loud (t .act) (rec .msg) (rec .last) q) ∙ simp kept
+
+-- of some bits at least one is taken, and no more than there are
+module _ (bits : List ℕ) where
+  pub record Takes (n : ℕ) (m : Many) : Type 0 where
+    pub least : n ≤ m .taken
+    pub some : 0 < length bits → n < m .taken
+    pub most : m .taken ≤ n + length bits
+
+pub listened-takes : (rec : Listener) (bits : List ℕ) (n : ℕ) → Takes bits n (listened rec bits n)
+unfolding listened
+listened-takes rec [] n = record { least = omega arith; some = λ h. absurd (let z : ⊥ = omega arith in z); most = omega arith }
+listened-takes rec (bit ∷ bits) n =
+    chosen (Takes (bit ∷ bits) n) (silent (heardIn rec bit .report)) (listened (heardIn rec bit .rec) bits (n + 1)) _
+    (λ _. let t = listened-takes (heardIn rec bit .rec) bits (n + 1) in record { least = omega (arith, t .least); some = λ _. omega (arith, t .least); most = omega (arith, t .most) })
+    (λ _. record { least = omega arith; some = λ _. omega arith; most = omega arith })
+
+-- many bits keep a record in range, as one does
+pub listened-fits : (rec : Listener) (bits : List ℕ) (n : ℕ) → Fits rec → Fits (listened rec bits n .rec)
+unfolding listened
+listened-fits rec [] n f = f
+listened-fits rec (bit ∷ bits) n f =
+    chosen (λ (m : Many). Fits (m .rec)) (silent (heardIn rec bit .report)) (listened (heardIn rec bit .rec) bits (n + 1)) _
+    (λ _. listened-fits (heardIn rec bit .rec) bits (n + 1) (heard-in-fits rec bit f))
+    (λ _. heard-in-fits rec bit f)
+
+-- and so says what is laid down for them
+pub many-in : (rec : Listener) (bits : List ℕ) → Fits rec → heardMany rec bits ≡ listened rec bits 0
+unfolding choose
+many-in rec bits f = simp (fits-range rec f)

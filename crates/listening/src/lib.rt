@@ -287,11 +287,13 @@ fn readable(octets: &[u8]) -> bool
 fn agree(m: Message, last: Message) -> bool
     ensures { λ r. ⌜ r ≡ agreed m last ⌝ }
 {
+    let kind = m.kind;
+    let last_kind = last.kind;
     let octets = m.octets;
     let before = last.octets;
     let heard = first(&octets, m.len as usize);
     if readable(heard) {
-        if m.kind == last.kind {
+        if kind == last_kind {
             return octets::same(heard, first(&before, last.len as usize));
         }
         return false;

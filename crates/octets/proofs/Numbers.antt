@@ -11,10 +11,11 @@ use Rattle.octets.specs.declared.Verdict.{Verdict}
 use Rattle.octets.specs.declared.Verdict.the-variants.{Accepted, Refused}
 use Rattle.octets.specs.Refusals.{number, fault}
 
-abbrev named : ℕ → Refusal
+-- the refusal of a number
+abbrev pub named : ℕ → Refusal
 named n = getD (NotABit ∷ StopBitZero ∷ BadOctet ∷ TooManyOctets ∷ NoCallFunction ∷ ShortBuffer ∷ AfterOver ∷ Clock ∷ WrongEvent ∷ BadRecord ∷ NotOffered ∷ WrongCategory ∷ CutShort ∷ []) (n - 1) NotABit
 
-named-number : (r : Refusal) → named (number r) ≡ r
+pub named-number : (r : Refusal) → named (number r) ≡ r
 named-number NotABit = refl
 named-number StopBitZero = refl
 named-number BadOctet = refl

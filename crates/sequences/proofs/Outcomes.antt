@@ -13,11 +13,11 @@ use Rattle.octets.specs.declared.Refusal.{Refusal}
 use Rattle.octets.specs.declared.Refusal.the-variants.{ShortBuffer}
 use Rattle.octets.specs.Refusals.{number}
 use Rattle.octets.specs.Lists.{listFault}
-use Rattle.octets.proofs.Numbers.{number-injective, number-some}
+use Rattle.octets.proofs.Numbers.{named, named-number, number-some}
 use Rattle.sequences.specs.declared.Wrote.{Wrote}
 use Rattle.sequences.specs.declared.Wrote.the-variants.{Bits, Refused}
 use Rattle.sequences.specs.Line.{sequence, copies}
-use Rattle.sequences.specs.Writing.{bits, refusal, says, Outcome, roomFault, put, written, Meets}
+use Rattle.sequences.specs.Writing.{Said, bits, refusal, says, Outcome, roomFault, put, written, Meets}
 
 -- by the room for a line
 module _ (line out : List ℕ) where
@@ -43,11 +43,16 @@ module _ (kind : Kind) (octets : List ℕ) (n : ℕ) (out : List ℕ) where
   meets-accepted r after e m = simp (eq-eqb _ _ e) m
 
 -- no two answers say the same
+abbrev saying : Said → Wrote
+saying (bits n) = Bits n
+saying (refusal n) = Refused (named n)
+
+said : (r : Wrote) → saying (says r) ≡ r
+said (Bits n) = refl
+said (Refused r) = ap Refused (named-number r)
+
 pub says-injective : (r s : Wrote) → says r ≡ says s → r ≡ s
-says-injective (Bits m) (Bits n) e = let z : m ≡ n = cc in ap Bits z
-says-injective (Bits m) (Refused s) e = cc
-says-injective (Refused r) (Bits n) e = cc
-says-injective (Refused r) (Refused s) e = ap Refused (number-injective r s (let z = e in cc))
+says-injective r s e = sym (said r) ∙ ap saying e ∙ said s
 
 -- two results that meet what is laid down are equal
 pub meets-unique : (laid : Outcome) (r s : Wrote) (after before : List ℕ) → Meets laid r after → Meets laid s before → (r ≡ s) × (after ≡ before)

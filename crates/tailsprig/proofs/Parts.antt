@@ -7,12 +7,13 @@ use lib.IntN.{ℤ}
 use Rattle.laws.specs.Choice.{choose}
 use Rattle.listening.specs.declared.Ear.{Ear}
 use Rattle.listening.specs.declared.Listener.{Listener}
-use Rattle.listening.specs.Hearing.{Outcome, heard}
+use Rattle.listening.specs.Hearing.{Outcome, Many, heard}
 use Rattle.listening.specs.Parts.{glanced, settled, touches, lightlyTold, withEar, inParts}
 use Rattle.listening.proofs.Parts.{parts-heard}
 use Rattle.tailsprig.specs.declared.Light.{Light}
 use Rattle.tailsprig.specs.declared.Heavy.{Heavy}
-use Rattle.tailsprig.specs.Hearing.{toldCode, hearOf}
+use Rattle.tailsprig.specs.Hearing.{toldCode, hearOf, HearsAs, RunsAs}
+use Rattle.tailsprig.specs.declared.Ran.{Ran}
 
 -- answers with equal fields are equal
 pub same-heavy : (r s : Listener) (m n : ℤ) → r ≡ s → m ≡ n → _≡_ {A = Heavy} (record { rec = r; code = m }) (record { rec = s; code = n })
@@ -36,3 +37,10 @@ hear-coded rec bit =
     let s = glanced (rec .ear) (rec .msg .kind) (rec .msg .len) (rec .last .kind) (rec .last .len) bit in
     coded-chosen (touches (s .act)) (settled (withEar rec (s .ear)) (s .act)) (record { report = lightlyTold (s .act); rec = withEar rec (s .ear) })
     ∙ ap coded (parts-heard rec bit)
+
+-- two results that meet a promise are equal
+pub hears-as-unique : (laid : Outcome) (r s : ℤ) (after before : Listener) → HearsAs laid r after → HearsAs laid s before → (r ≡ s) × (after ≡ before)
+hears-as-unique laid r s after before p q = (p .answer ∙ sym (q .answer), p .rec ∙ sym (q .rec))
+
+pub runs-as-unique : (laid : Many) (a b : Ran) → RunsAs laid a → RunsAs laid b → (a .code ≡ b .code) × (a .rec ≡ b .rec) × (a .taken ≡ b .taken)
+runs-as-unique laid a b p q = (p .answer ∙ sym (q .answer), p .rec ∙ sym (q .rec), p .taken ∙ sym (q .taken))

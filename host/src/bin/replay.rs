@@ -2,13 +2,13 @@
 //! row's last column. Prints a line for each difference and a last line with the counts; exits with 1 on a difference and
 //! with 2 where a file cannot be read as vectors. A file's header line says what its rows are.
 use std::{env, fs, process::ExitCode};
-use tailsprig::text;
+use tailsprig::{text, Listener, Report};
 
 /// What a row's call gives, in the text of its last column.
 type Call = fn(&[&str]) -> Result<String, String>;
 
 /// The header of each kind of file, and the call for its rows.
-const FILES: [(&str, Call); 1] = [("kind\toctets\tcopies\troom\tanswer", write)];
+const FILES: [(&str, Call); 2] = [("kind\toctets\tcopies\troom\tanswer", write), ("input\treports", listen)];
 
 /// A byte that is no bit, at each place another: what the writer must not touch.
 fn untouched(room: usize) -> Vec<u8> {
@@ -30,6 +30,49 @@ fn write(row: &[&str]) -> Result<String, String> {
         return Ok(format!("{answer}, and bytes behind that changed"));
     }
     Ok(answer)
+}
+
+/// How the bytes of a line arrive where many are heard at once: all together, or in pieces of these sizes in turn.
+const ARRIVALS: [&[usize]; 5] = [&[1 << 20], &[1], &[7], &[10, 1, 3], &[64, 2, 29]];
+
+fn listen(row: &[&str]) -> Result<String, String> {
+    let bits = text::line(row[0]);
+    let mut listener = Listener::fresh();
+    let mut reports = text::Reports::default();
+    // One bit a call: what each reports, and the record behind it.
+    let heard: Vec<(Report, Listener)> = bits
+        .iter()
+        .map(|&bit| {
+            let report = listener.hear(bit);
+            reports.add(1, report, listener.octets());
+            (report, listener.clone())
+        })
+        .collect();
+    match ARRIVALS.iter().find(|sizes| !same_in_pieces(&bits, &heard, sizes)) {
+        Some(sizes) => Ok(format!("{}, and not the same in pieces of {sizes:?}", reports.show())),
+        None => Ok(reports.show()),
+    }
+}
+
+/// Whether many bits at once give what one bit a call gave, report by report and record by record.
+fn same_in_pieces(bits: &[u8], heard: &[(Report, Listener)], sizes: &[usize]) -> bool {
+    let mut listener = Listener::fresh();
+    let mut sizes = sizes.iter().cycle();
+    let (mut at, mut end) = (0, 0);
+    while at < bits.len() {
+        if at == end {
+            end = bits.len().min(end + sizes.next().unwrap_or(&1));
+        }
+        let first = heard[at..end].iter().position(|(report, _)| *report != Report::Nothing);
+        let taken = first.map_or(end - at, |first| first + 1);
+        let (report, record) = &heard[at + taken - 1];
+        if listener.hear_many(&bits[at..end]) != (taken, *report) || listener != *record {
+            return false;
+        }
+        at += taken;
+    }
+    let record = listener.clone();
+    listener.hear_many(&[]) == (0, Report::Nothing) && listener == record
 }
 
 /// The rows of a file, how many differ, and whether every line could be read.

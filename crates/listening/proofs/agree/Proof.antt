@@ -44,17 +44,17 @@ same-requires c κs = search needs
 returns : tie.Need-returns
 unfolding agreed both
 returns c =
-    let t = c .before .before .before .before .before .before .before .before in
+    let t = c .before .before .before .before .before .before in
     let heard = t .before .first .ensures in
     let before = c .before .first2 .ensures in
-    simp (reading t, c .before .before .before .before .before .before .before .if1 .taken, eq-eqb _ _ (c .before .before .before .before .if2 .taken))
+    simp (reading t, c .before .before .before .before .before .if1 .taken, eq-eqb _ _ (c .before .before .before .before .if2 .taken))
     (c .same .ensures ∙ ap (λ (l : List ℕ). sameList l (now (c .before .first2 .result))) heard ∙ ap (λ (l : List ℕ). sameList (octetsOf (t .before .before .before .before .before .before .args .m)) l) before)
 
 returns-2 : tie.Need-returns-2
 unfolding agreed both
 returns-2 c =
-    let t = c .before .before .before .before in
-    simp (reading t, c .before .before .before .if1 .taken, ne-eqb _ _ (c .if2 .left))
+    let t = c .before .before in
+    simp (reading t, c .before .if1 .taken, ne-eqb _ _ (c .if2 .left))
 
 returns-3 : tie.Need-returns-3
 unfolding agreed both

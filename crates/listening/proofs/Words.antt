@@ -1,0 +1,38 @@
+-- The numbers that listening compares with are the bits of the line: syncs, ten 1s, CJ and framed octets, as they are heard.
+-- Assumes nothing.
+use Prim.Native.Nat.{ℕ, _/_, _<_}
+use mathlib.Core.Path.{_≡_, refl}
+use mathlib.Core.Bool.{Bool}
+use mathlib.Core.List.{List, [], _∷_}
+use lib.Dec.{eqb, eqb→eq}
+use Rattle.laws.specs.Choice.{both}
+use Rattle.laws.specs.Tests.{allBelow}
+use Rattle.laws.proofs.Computed.{below}
+use Rattle.octets.specs.declared.Kind.{Kind}
+use Rattle.octets.specs.declared.Kind.the-variants.{Ci, Menu}
+use Rattle.sequences.specs.Line.{framed, framedAll, tenOnes, sync, cj}
+use Rattle.sequences.specs.Tens.{syncTen}
+use Rattle.listening.specs.Framing.{pushed, lastTen, octetOf}
+
+-- the past once these bits are heard
+abbrev pub hearing : ℕ → List ℕ → ℕ
+hearing past [] = past
+hearing past (bit ∷ bits) = hearing (pushed past bit) bits
+
+pub ones-word : lastTen (hearing 0 tenOnes) ≡ 1023
+ones-word = refl
+
+pub sync-word : (kind : Kind) → lastTen (hearing 0 (sync kind)) ≡ syncTen kind
+sync-word Ci = refl
+sync-word Menu = refl
+
+pub cj-word : hearing 0 cj / 4 ≡ 537395712
+unfolding cj framedAll framed
+cj-word = refl
+
+abbrev readsBack : ℕ → Bool
+readsBack b = eqb (octetOf (hearing 0 (framed b))) b
+
+pub octet-word : (b : ℕ) → b < 256 → octetOf (hearing 0 (framed b)) ≡ b
+unfolding framed allBelow both
+octet-word b h = eqb→eq (octetOf (hearing 0 (framed b))) b (below readsBack 256 tt b h)

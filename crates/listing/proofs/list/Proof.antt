@@ -1,0 +1,131 @@
+use mathlib.Core.Path.{sym, ap, _∙_}
+use lib.Seq.{length-take-le}
+use denote.Ref.{now}
+use lib.ListN.{take, drop, length-drop}
+use Prim.Native.Nat.{_<_, _+_}
+use Rattle.laws.proofs.Rest.{rest-of}
+use Rattle.listening.specs.declared.Listener.{Listener}
+use Rattle.listening.specs.Hearing.{Many, listened}
+use Rattle.listening.proofs.Many.{listened-takes, listened-fits, many-in}
+use borrow.Author.Needs.{needs}
+use native.Mathlib.Omega.{arith}
+use Prim.Native.Nat.{_≤_, _-_}
+use mathlib.Core.Path.{_≡_, refl}
+use lib.ListN.{length}
+use Rattle.listening.specs.Record.{Fits}
+use Rattle.listing.proofs.list.Statement.{statement}
+use Rattle.listing.proofs.list.Tie as tie
+
+abbrev Inv-loop : tie.InvT-loop
+Inv-loop bits out₀ rec₀ count₀ at₀ n₀ out rec count at n = Fits rec × (at ≤ length bits) × (n ≤ length out) × (length out ≡ length out₀)
+
+abbrev μ-loop : tie.MeasureT-loop
+μ-loop bits out₀ rec₀ count₀ at₀ n₀ out rec count at n = length bits - at
+
+-- what many bits leave: a record in range, and between one and all of the bits taken
+record Held (t : tie.After-hear-many Inv-loop μ-loop) : Type 0 where
+  fits : Fits (t .hear-many .result .rec)
+  some : 0 < t .hear-many .result .taken
+  most : t .before .before .before .loop .at + t .hear-many .result .taken ≤ length (now (t .before .before .before .before .before .before .before .args .bits))
+
+held : (t : tie.After-hear-many Inv-loop μ-loop) → Held t
+held t =
+    let l = t .before .before .before in
+    let bits = now (l .before .before .before .before .args .bits) in
+    let rest = take (length bits - l .loop .at) (drop (l .loop .at) bits) in
+    let m = many-in (l .loop .rec) rest (l .loop .inv .0) in
+    let takes = listened-takes (l .loop .rec) rest 0 in
+    let n = ap length (rest-of bits (l .loop .at)) ∙ length-drop (l .loop .at) bits in
+    let taken = t .hear-many .ensures .taken ∙ ap (λ (x : Many). x .taken) m in
+    record {
+      fits = rw (t .hear-many .ensures .rec ∙ ap (λ (x : Many). x .rec) m) (listened-fits (l .loop .rec) rest 0 (l .loop .inv .0));
+      some = omega (arith, taken, takes .some (omega arith));
+      most = omega (arith, taken, takes .most);
+    }
+
+loop-holds : tie.Need-loop-holds Inv-loop μ-loop
+loop-holds c = (c .before .before .before .pre, search needs, search needs, search needs)
+
+sub-hear-many : tie.Need-sub-hear-many Inv-loop μ-loop
+sub-hear-many c = search needs
+
+part-hear-many-start : tie.Need-part-hear-many-start Inv-loop μ-loop
+part-hear-many-start c = search needs
+
+part-hear-many-end : tie.Need-part-hear-many-end Inv-loop μ-loop
+part-hear-many-end c = search needs
+
+hear-many-requires : tie.Need-hear-many-requires Inv-loop μ-loop
+hear-many-requires c κs = search needs
+
+wrapping-add-u64-requires : tie.Need-wrapping-add-u64-requires Inv-loop μ-loop
+wrapping-add-u64-requires c κs = search needs
+
+wrapping-sub-u64-requires : tie.Need-wrapping-sub-u64-requires Inv-loop μ-loop
+wrapping-sub-u64-requires c κs = search needs
+
+put-message-requires : tie.Need-put-message-requires Inv-loop μ-loop
+put-message-requires c κs = search needs
+
+make-room-requires : tie.Need-make-room-requires Inv-loop μ-loop
+make-room-requires c κs = search needs
+
+bits-of-requires : tie.Need-bits-of-requires Inv-loop μ-loop
+bits-of-requires c κs = search needs
+
+wrapping-add-u64-requires-2 : tie.Need-wrapping-add-u64-requires-2 Inv-loop μ-loop
+wrapping-add-u64-requires-2 c κs = search needs
+
+add-at : tie.Need-add-at Inv-loop μ-loop
+add-at c =
+    let t = c .before .before .before .before .before .before .before .before .before .before .before in
+    omega (arith, held t .most, t .before .before .before .before .before .before .before .good)
+
+loop-less : tie.Need-loop-less Inv-loop μ-loop
+loop-less c = let h = held (c .before .before .before .before .before .before .before .before .before .before .before) in omega (arith, h .some, h .most)
+
+loop-again : tie.Need-loop-again Inv-loop μ-loop
+loop-again c =
+    let h = held (c .before .before .before .before .before .before .before .before .before .before .before) in
+    (h .fits, omega (arith, h .most), search needs, search needs)
+
+slice-reshare-prefix-write-all : tie.Need-slice-reshare-prefix-write-all Inv-loop μ-loop
+slice-reshare-prefix-write-all c = search needs
+
+slice-aggregate-write-all : tie.Need-slice-aggregate-write-all Inv-loop μ-loop
+slice-aggregate-write-all c = sym (length-take-le (c .before .before .loop .n) (c .before .before .loop .out) (search needs))
+
+write-all-requires : tie.Need-write-all-requires Inv-loop μ-loop
+write-all-requires c κs = search needs
+
+same-length : tie.Need-same-length Inv-loop μ-loop
+same-length c = c .before .before .before .loop .inv .3
+
+returns : tie.Need-returns Inv-loop μ-loop
+returns c = c .before .before .before .loop .inv .0
+
+pub list-spec : {M : Type 1} → statement M
+list-spec =
+    tie.close
+    (tie.spec
+    Inv-loop
+    μ-loop
+    loop-holds
+    sub-hear-many
+    part-hear-many-start
+    part-hear-many-end
+    hear-many-requires
+    wrapping-add-u64-requires
+    wrapping-sub-u64-requires
+    put-message-requires
+    make-room-requires
+    bits-of-requires
+    wrapping-add-u64-requires-2
+    add-at
+    loop-less
+    loop-again
+    slice-reshare-prefix-write-all
+    slice-aggregate-write-all
+    write-all-requires
+    same-length
+    returns)

@@ -1,0 +1,257 @@
+// Lists what is heard in the characters 0 and 1 of standard input, a line for each report, as document 01 lays down at the end
+// of 'Worked values'. Input is read in blocks, and what a block reports is gathered and written at once.
+use libc::STDIN_FILENO;
+use libc::STDOUT_FILENO;
+use listening::Heard;
+use listening::Listener;
+ghost use Prim.Native.Nat.{_≤_};
+ghost use lib.ListN.{length};
+ghost use Rattle.listening.specs.Record.{Fits};
+
+// The line's record, how many bits were heard, and whether more may come.
+struct State {
+    rec: Listener,
+    bits: u64,
+    on: bool,
+}
+
+// A byte behind the first `at` ones, where there is room for it.
+fn put(out: &mut [u8], at: usize, b: u8) -> usize
+    requires { ⌜ at ≤ length (now out) ⌝ }
+    ensures { λ r. ⌜ r ≤ length (now (out .exit)) ⌝ }
+{
+    if at < out.len() {
+        out[at] = b;
+        return at + 1;
+    }
+    at
+}
+
+fn put_text(out: &mut [u8], at: usize, text: &[u8]) -> usize
+    requires { ⌜ at ≤ length (now out) ⌝ }
+    ensures { λ r. ⌜ r ≤ length (now (out .exit)) ⌝ }
+{
+    let mut n = at;
+    let mut i: usize = 0;
+    while i < text.len() {
+        n = put(out, n, text[i]);
+        i += 1;
+    }
+    n
+}
+
+fn put_decimal(out: &mut [u8], at: usize, number: u64) -> usize
+    requires { ⌜ at ≤ length (now out) ⌝ }
+    ensures { λ r. ⌜ r ≤ length (now (out .exit)) ⌝ }
+{
+    let mut digits = [0u8; 20];
+    let k = io::decimal(number, &mut digits);
+    put_text(out, at, &digits[..k])
+}
+
+// A hexadecimal digit, in upper case.
+fn hex_digit(n: u8) -> u8
+    requires { ⌜ n ≤ 15 ⌝ }
+{
+    if n < 10 { 48 + n } else { 55 + n }
+}
+
+fn put_octet(out: &mut [u8], at: usize, b: u8) -> usize
+    requires { ⌜ at ≤ length (now out) ⌝ }
+    ensures { λ r. ⌜ r ≤ length (now (out .exit)) ⌝ }
+{
+    let n = put(out, at, hex_digit(b / 16));
+    put(out, n, hex_digit(b % 16))
+}
+
+// Octets with single spaces between, or - where there are none.
+fn put_octets(out: &mut [u8], at: usize, octets: &[u8]) -> usize
+    requires { ⌜ at ≤ length (now out) ⌝ }
+    ensures { λ r. ⌜ r ≤ length (now (out .exit)) ⌝ }
+{
+    if octets.len() == 0 {
+        return put(out, at, b'-');
+    }
+    let mut n = put_octet(out, at, octets[0]);
+    let mut i: usize = 1;
+    while i < octets.len() {
+        n = put(out, n, b' ');
+        n = put_octet(out, n, octets[i]);
+        i += 1;
+    }
+    n
+}
+
+// The place, what was heard, and its octets.
+fn put_fields(out: &mut [u8], at: usize, place: u64, what: &[u8], octets: &[u8]) -> usize
+    requires { ⌜ at ≤ length (now out) ⌝ }
+    ensures { λ r. ⌜ r ≤ length (now (out .exit)) ⌝ }
+{
+    let n = put_decimal(out, at, place);
+    let m = put(out, n, b'\t');
+    let k = put_text(out, m, what);
+    let j = put(out, k, b'\t');
+    let e = put_octets(out, j, octets);
+    put(out, e, b'\n')
+}
+
+fn put_refusal(out: &mut [u8], at: usize, place: u64, number: u8) -> usize
+    requires { ⌜ at ≤ length (now out) ⌝ }
+    ensures { λ r. ⌜ r ≤ length (now (out .exit)) ⌝ }
+{
+    let n = put_decimal(out, at, place);
+    let m = put_text(out, n, b"\tR");
+    let k = put_decimal(out, m, number as u64);
+    put_text(out, k, b"\t-\n")
+}
+
+// The line of a report.
+fn put_line(out: &mut [u8], at: usize, place: u64, heard: Heard, octets: &[u8]) -> usize
+    requires { ⌜ at ≤ length (now out) ⌝ }
+    ensures { λ r. ⌜ r ≤ length (now (out .exit)) ⌝ }
+{
+    match heard {
+        Heard::Nothing => at,
+        Heard::Ci => put_fields(out, at, place, b"CI", octets),
+        Heard::Menu(_) => put_fields(out, at, place, b"MENU", octets),
+        Heard::Cj => put_fields(out, at, place, b"CJ", b""),
+        Heard::Refused(r) => put_refusal(out, at, place, octets::refusal_number(r)),
+    }
+}
+
+// How many of the bytes taken were bits: all, but for one that was refused as none.
+fn bits_of(heard: Heard, taken: usize) -> u64 {
+    match heard {
+        Heard::Nothing => taken as u64,
+        Heard::Ci => taken as u64,
+        Heard::Menu(_) => taken as u64,
+        Heard::Cj => taken as u64,
+        Heard::Refused(r) => {
+            if octets::refusal_number(r) == 1 {
+                std::num::wrapping_sub_u64(taken as u64, 1)
+            } else {
+                taken as u64
+            }
+        }
+    }
+}
+
+// The first octets of a message.
+fn put_message(out: &mut [u8], at: usize, place: u64, heard: Heard, m: listening::Message) -> usize
+    requires { ⌜ at ≤ length (now out) ⌝ }
+    ensures { λ r. ⌜ r ≤ length (now (out .exit)) ⌝ }
+{
+    let octets = m.octets;
+    let all: &[u8] = &octets;
+    let n = m.len as usize;
+    if n <= all.len() {
+        return put_line(out, at, place, heard, &all[..n]);
+    }
+    at
+}
+
+// Writes what is gathered, once little room is left for another line.
+fn make_room(out: &[u8], n: usize) -> usize
+    requires { ⌜ n ≤ length (now out) ⌝ }
+    ensures { λ r. ⌜ r ≤ length (now (out .entry)) ⌝ }
+{
+    if out.len() - n < 256 {
+        io::write_all(STDOUT_FILENO, &out[..n]);
+        return 0;
+    }
+    n
+}
+
+// Characters to bits, in place: 0 and 1 become 0 and 1, line feeds go, any other byte becomes one that is no bit. Answers how
+// many there are.
+fn to_bits(text: &mut [u8]) -> usize
+    ensures { λ r. ⌜ r ≤ length (now (text .exit)) ⌝ }
+{
+    let mut n: usize = 0;
+    let mut i: usize = 0;
+    while i < text.len() {
+        let b = text[i];
+        i += 1;
+        if b != 10 {
+            text[n] = std::num::wrapping_sub_u8(b, 48);
+            n += 1;
+        }
+    }
+    n
+}
+
+// Lists what the bits report.
+fn list(s: State, bits: &[u8], out: &mut [u8]) -> State
+    requires { ⌜ Fits (s .rec) ⌝ }
+    ensures { λ r. ⌜ Fits (r .rec) ⌝ }
+{
+    let mut rec = s.rec;
+    let mut count = s.bits;
+    let mut at: usize = 0;
+    let mut n: usize = 0;
+    while at < bits.len() {
+        let ran = listening::hear_many(rec, &bits[at..]);
+        rec = ran.rec;
+        let taken = ran.taken;
+        let heard = ran.heard;
+        let before = std::num::wrapping_add_u64(count, taken as u64);
+        n = put_message(
+            out,
+            n,
+            std::num::wrapping_sub_u64(before, 1),
+            heard,
+            rec.msg,
+        );
+        n = make_room(out, n);
+        count = std::num::wrapping_add_u64(count, bits_of(heard, taken));
+        at += taken;
+    }
+    io::write_all(STDOUT_FILENO, &out[..n]);
+    State {
+        rec: rec,
+        bits: count,
+        on: true,
+    }
+}
+
+// Reads once, and lists what came; where nothing comes any more, or nothing can be read, the listing is over.
+fn read_block(s: State, text: &mut [u8], lines: &mut [u8]) -> State
+    requires { ⌜ Fits (s .rec) ⌝ }
+    ensures { λ r. ⌜ Fits (r .rec) ⌝ }
+{
+    let got = libc::read(STDIN_FILENO, text);
+    let n = io::count(got, text);
+    if n == 0 {
+        let rec = s.rec;
+        return State {
+            rec: rec,
+            bits: s.bits,
+            on: false,
+        };
+    }
+    let k = to_bits(&mut text[..n]);
+    list(s, &text[..k], lines)
+}
+
+fn list_all(text: &mut [u8], lines: &mut [u8]) {
+    let mut s = State {
+        rec: listening::fresh_line(),
+        bits: 0,
+        on: true,
+    };
+    let mut turns = u64::MAX;
+    while 0 < turns {
+        turns -= 1;
+        s = read_block(s, text, lines);
+        if !s.on {
+            return;
+        }
+    }
+}
+
+fn main() {
+    io::write_all(STDOUT_FILENO, b"bit\twhat\toctets\n");
+    let mut text = io::large_buffer();
+    let mut lines = io::large_buffer();
+    list_all(&mut text, &mut lines);
+}

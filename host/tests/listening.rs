@@ -1,0 +1,237 @@
+//! What the vectors of listening do not reach: numbers that only C can pass, and long lines beside plain Rust.
+use tailsprig::{c, plain, text, Listener, Refusal, Report};
+
+fn fresh() -> c::Listener {
+    // SAFETY: takes nothing and answers numbers.
+    unsafe { c::tailsprig_fresh() }
+}
+
+/// The code, and the record behind it.
+fn hear(mut rec: c::Listener, bit: u8) -> (i32, c::Listener) {
+    // SAFETY: the record is lent for the call alone.
+    let code = unsafe { c::tailsprig_hear(&mut rec, bit) };
+    (code, rec)
+}
+
+fn hear_many(rec: c::Listener, bits: &[u8]) -> c::Ran {
+    // SAFETY: the slice is lent with its length.
+    unsafe { c::tailsprig_hear_many(rec, bits.as_ptr(), bits.len()) }
+}
+
+/// A record with a number of its own at every place, each the largest in its range.
+fn largest() -> c::Listener {
+    let octets = |from: u8| std::array::from_fn(|at| from + at as u8);
+    c::Listener {
+        ear: c::Ear { past: u32::MAX, heard: 30, place: 28 },
+        msg: c::Message { kind: 2, len: 64, octets: octets(1) },
+        last: c::Message { kind: 2, len: 64, octets: octets(101) },
+    }
+}
+
+/// A field to set, and the first number outside its range.
+type Field = (&'static str, fn(&mut c::Listener, u32), u32, u32);
+
+const FIELDS: [Field; 6] = [
+    ("heard", |rec, n| rec.ear.heard = n, 31, u32::MAX),
+    ("place", |rec, n| rec.ear.place = n, 29, u32::MAX),
+    ("msg.kind", |rec, n| rec.msg.kind = n as u8, 3, 255),
+    ("msg.len", |rec, n| rec.msg.len = n as u8, 65, 255),
+    ("last.kind", |rec, n| rec.last.kind = n as u8, 3, 255),
+    ("last.len", |rec, n| rec.last.len = n as u8, 65, 255),
+];
+
+#[test]
+fn the_structs_are_as_large_as_the_header_says() {
+    assert_eq!(size_of::<c::Listener>(), 144);
+    assert_eq!(size_of::<c::Ran>(), 160);
+}
+
+#[test]
+fn a_fresh_record_is_all_zeros() {
+    let none = c::Message { kind: 0, len: 0, octets: [0; 64] };
+    assert_eq!(fresh(), c::Listener { ear: c::Ear { past: 0, heard: 0, place: 0 }, msg: none, last: none });
+}
+
+#[test]
+fn a_field_out_of_range_is_refused_before_all_else_and_changes_nothing() {
+    for (name, set, first, most) in FIELDS {
+        for number in [first, first + 1, most - 1, most] {
+            for good in [fresh(), largest()] {
+                let mut rec = good;
+                set(&mut rec, number);
+                for bit in [0, 1, 2, 255] {
+                    assert_eq!(hear(rec, bit), (-10, rec), "{name} {number}, bit {bit}");
+                }
+                for bits in [&[][..], &[0], &[1], &[2], &[1; 100]] {
+                    let refused = c::Ran { rec, taken: 0, code: -10 };
+                    assert_eq!(hear_many(rec, bits), refused, "{name} {number}, bits {bits:?}");
+                }
+            }
+        }
+    }
+}
+
+#[test]
+fn the_last_number_in_each_range_is_not_refused() {
+    for (name, set, first, _) in FIELDS {
+        for good in [fresh(), largest()] {
+            let mut rec = good;
+            set(&mut rec, first - 1);
+            for bit in [0, 1] {
+                assert_ne!(hear(rec, bit).0, -10, "{name} {}", first - 1);
+                assert_ne!(hear_many(rec, &[bit]).code, -10, "{name} {}", first - 1);
+            }
+            assert_eq!(hear_many(rec, &[]), c::Ran { rec, taken: 0, code: 0 }, "{name} {}", first - 1);
+        }
+    }
+}
+
+#[test]
+fn a_byte_that_is_no_bit_is_refused_at_every_place_and_changes_nothing() {
+    for place in 0..=28 {
+        let mut rec = largest();
+        rec.ear.place = place;
+        for byte in 2..=255 {
+            assert_eq!(hear(rec, byte), (-1, rec), "byte {byte} at place {place}");
+            assert_eq!(
+                hear_many(rec, &[byte, 1, 0]),
+                c::Ran { rec, taken: 1, code: -1 },
+                "byte {byte} at place {place}"
+            );
+        }
+    }
+}
+
+/// Marsaglia's xorshift: the same numbers in every run.
+struct Random(u64);
+
+impl Random {
+    fn below(&mut self, limit: usize) -> usize {
+        self.0 ^= self.0 << 13;
+        self.0 ^= self.0 >> 7;
+        self.0 ^= self.0 << 17;
+        (self.0 >> 33) as usize % limit
+    }
+
+    fn octets<const N: usize>(&mut self) -> [u8; N] {
+        std::array::from_fn(|_| self.below(256) as u8)
+    }
+
+    fn message(&mut self) -> c::Message {
+        c::Message { kind: self.below(3) as u8, len: self.below(65) as u8, octets: self.octets() }
+    }
+
+    /// Any record in range, most of which no bits lead to.
+    fn record(&mut self) -> c::Listener {
+        let past = match self.below(4) {
+            0 => u32::MAX << self.below(32),
+            1 => 0x8020_0800,
+            _ => u32::from_le_bytes(self.octets()),
+        };
+        let ear = c::Ear { past, heard: self.below(31) as u32, place: self.below(29) as u32 };
+        let msg = self.message();
+        let last = if self.below(2) == 0 { msg } else { self.message() };
+        c::Listener { ear, msg, last }
+    }
+
+    /// Bytes of a line: messages, copies of them, CJ, damage, noise, and bytes that are no bits.
+    fn line(&mut self) -> Vec<u8> {
+        let mut line = Vec::new();
+        for _ in 0..self.below(12) {
+            match self.below(8) {
+                0..=3 => self.sequence(&mut line),
+                4 => line.extend(b"000000000100000000010000000001".map(|bit| bit - b'0')),
+                5 => line.extend(std::iter::repeat_n(1, self.below(25))),
+                6 => line.extend(std::iter::repeat_n(0, self.below(25))),
+                _ => (0..self.below(60)).for_each(|_| line.push(self.below(2) as u8)),
+            }
+        }
+        for _ in 0..self.below(4) {
+            let at = self.below(line.len() + 1);
+            match (self.below(4), line.get_mut(at)) {
+                (0, Some(bit)) => *bit ^= 1,
+                (1, Some(_)) => drop(line.remove(at)),
+                (2, _) => line.insert(at, 2 + self.below(254) as u8),
+                _ => line.truncate(at),
+            }
+        }
+        line
+    }
+
+    /// A sequence a few times, with octets that the writer would refuse as well.
+    fn sequence(&mut self, line: &mut Vec<u8>) {
+        let most = if self.below(8) == 0 { 67 } else { 7 };
+        let sync = match self.below(20) {
+            0 => b"0101010101",
+            1..=6 => b"0000000001",
+            _ => b"0000001111",
+        };
+        let octets: Vec<u8> = (0..self.below(most))
+            .map(|at| match (at, self.below(16)) {
+                (_, 0) => self.below(256) as u8,
+                (0, _) => 0xc1,
+                _ => self.below(256) as u8 & !0x28,
+            })
+            .collect();
+        for _ in 0..1 + self.below(3) {
+            line.extend([1; 10]);
+            line.extend(sync.map(|bit| bit - b'0'));
+            for octet in &octets {
+                line.push(0);
+                line.extend((0..8).map(|i| octet >> i & 1));
+                line.push(1);
+            }
+        }
+    }
+}
+
+#[test]
+fn many_bits_at_once_are_single_bits_from_every_record() {
+    let mut random = Random(1);
+    for _ in 0..200_000 {
+        let start = random.record();
+        let bits: [u8; 40] = std::array::from_fn(|_| if random.below(200) == 0 { 2 } else { random.below(2) as u8 });
+        let mut expected = c::Ran { rec: start, taken: 0, code: 0 };
+        while expected.code == 0 && expected.taken < bits.len() {
+            (expected.code, expected.rec) = hear(expected.rec, bits[expected.taken]);
+            expected.taken += 1;
+        }
+        assert_eq!(hear_many(start, &bits), expected, "{start:?} {bits:?}");
+        let rec = expected.rec;
+        let in_range = rec.ear.heard <= 30 && rec.ear.place <= 28;
+        assert!(in_range && [rec.msg, rec.last].iter().all(|m| m.kind <= 2 && m.len <= 64), "{rec:?}");
+    }
+}
+
+#[test]
+fn every_line_is_heard_as_plain_rust_hears_it() {
+    let mut random = Random(2);
+    let mut seen = Vec::new();
+    for _ in 0..50_000 {
+        let line = random.line();
+        let (mut ours, mut rust) = (Listener::fresh(), plain::Listener::fresh());
+        let (mut ours_said, mut rust_said) = (text::Reports::default(), text::Reports::default());
+        let mut at = 0;
+        while at < line.len() {
+            let piece = &line[at..line.len().min(at + 1 + random.below(100))];
+            let (taken, report) = ours.hear_many(piece);
+            ours_said.add(taken, report, ours.octets());
+            for &bit in &piece[..taken] {
+                let report = rust.hear(bit);
+                rust_said.add(1, report, rust.octets());
+            }
+            assert_eq!(ours.octets(), rust.octets(), "{line:?}");
+            if !seen.contains(&report) {
+                seen.push(report);
+            }
+            at += taken;
+        }
+        assert_eq!(ours_said.show(), rust_said.show(), "{line:?}");
+    }
+    // The lines would show little if one of the reports never came.
+    let menus = [true, false].map(|agreed| Report::Menu { agreed });
+    let refused = [1, 2, 3, 4, 13].map(|number| Report::Refused(Refusal(number)));
+    for report in [Report::Nothing, Report::Ci, Report::Cj].iter().chain(&menus).chain(&refused) {
+        assert!(seen.contains(report), "{report:?} never came");
+    }
+}

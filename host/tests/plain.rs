@@ -1,0 +1,54 @@
+//! The plain Rust that the library is timed and compared with keeps to the same vectors and recordings.
+use std::{fs, path::PathBuf};
+use tailsprig::{plain, text};
+
+fn tests(name: &str) -> PathBuf {
+    PathBuf::from(env!("CARGO_MANIFEST_DIR")).join("../tests").join(name)
+}
+
+#[test]
+fn plain_listener_gives_the_reports_of_the_vectors() {
+    let vectors = fs::read_to_string(tests("vectors/listen.tsv")).expect("the vectors can be read");
+    let mut rows = 0;
+    for row in vectors.lines().skip(1) {
+        let (input, expected) = row.split_once('\t').expect("a row has two fields");
+        let bits = text::line(input);
+
+        let mut listener = plain::Listener::fresh();
+        let mut one = text::Reports::default();
+        for &bit in &bits {
+            let report = listener.hear(bit);
+            one.add(1, report, listener.octets());
+        }
+        assert_eq!(one.show(), expected, "one bit a call: {input}");
+
+        let mut listener = plain::Listener::fresh();
+        let mut many = text::Reports::default();
+        let mut at = 0;
+        while at < bits.len() {
+            let (taken, report) = listener.hear_many(&bits[at..]);
+            many.add(taken, report, listener.octets());
+            at += taken;
+        }
+        assert_eq!(many.show(), expected, "many at once: {input}");
+        rows += 1;
+    }
+    assert!(rows > 0, "no rows");
+}
+
+#[test]
+fn plain_listing_prints_the_listings_of_the_recordings() {
+    let mut files = 0;
+    for entry in fs::read_dir(tests("recordings")).expect("the recordings can be read") {
+        let bits = entry.expect("an entry can be read").path();
+        if bits.extension().is_some_and(|extension| extension == "bits") {
+            let input = fs::read(&bits).expect("the bits can be read");
+            let expected = fs::read_to_string(bits.with_extension("listing")).expect("the listing can be read");
+            let mut printed = Vec::new();
+            plain::listing(&input[..], &mut printed).expect("memory can be written");
+            assert_eq!(String::from_utf8_lossy(&printed), expected, "{}", bits.display());
+            files += 1;
+        }
+    }
+    assert!(files > 0, "no recordings");
+}

@@ -1,0 +1,94 @@
+#!/usr/bin/env bash
+# listing.sh PROGRAM DIR: runs the listing program on every DIR/NAME.bits and compares what it prints, byte for byte,
+# with NAME.listing; then on the example of document 01, on what is no recording (no input, bytes that are no bits, a
+# last line without its line feed), and on an input larger than the blocks that a program reads. Each input comes once
+# as a file and once through a pipe in pieces of odd sizes. Prints what differs; exits with 1 on a difference and with 2
+# where there is nothing to run.
+set -uo pipefail
+
+program=${1:?the listing program}
+recordings=${2:?the folder of the recordings}
+work=$(mktemp -d)
+trap 'rm -rf "$work"' EXIT
+
+runs=0
+differ=0
+
+# in_pieces SIZE..: copies its input in pieces of these sizes, then the rest. The pauses let the program take each piece
+# by itself; without them the pipe would join them again.
+in_pieces() {
+    local size
+    for size in "$@"; do
+        dd bs="$size" count=1 status=none
+        sleep 0.002
+    done
+    cat
+}
+
+# compare NAME EXPECTED STATUS: what was printed into $work/printed, and how the program ended.
+compare() {
+    runs=$((runs + 1))
+    [ "$3" -eq 0 ] || printf '%s: ended with %s\n' "$1" "$3"
+    if ! cmp -s "$2" "$work/printed"; then
+        printf '%s: printed (+) is not what was expected (-)\n' "$1"
+        diff -u "$2" "$work/printed" | sed -n '4,12p'
+    elif [ "$3" -eq 0 ]; then
+        return
+    fi
+    differ=$((differ + 1))
+}
+
+# check NAME INPUT EXPECTED SIZE..: the input as a file, then through a pipe in pieces of these sizes.
+check() {
+    local name=$1 input=$2 expected=$3
+    shift 3
+    "$program" <"$input" >"$work/printed"
+    compare "$name" "$expected" $?
+    in_pieces "$@" <"$input" | "$program" >"$work/printed"
+    compare "$name, in pieces" "$expected" $?
+}
+
+# say NAME INPUT LINE..: an input with the escapes of printf %b, and the lines expected behind the header.
+say() {
+    local name=$1 input=$2
+    shift 2
+    printf '%b' "$input" >"$work/input"
+    { printf 'bit\twhat\toctets\n'; [ $# -eq 0 ] || printf '%b\n' "$@"; } >"$work/expected"
+    check "$name" "$work/input" "$work/expected" 1 7 13
+}
+
+command -v "$program" >/dev/null || { printf '%s: no program\n' "$program"; exit 2; }
+for bits in "$recordings"/*.bits; do
+    [ -f "$bits" ] || { printf '%s: no recordings\n' "$recordings"; exit 2; }
+    check "$bits" "$bits" "${bits%.bits}.listing" 1 7 2 31 1 64 10
+done
+
+ci=111111111100000000010100000111
+ones=1111111111
+cj=000000000100000000010000000001
+say 'the example of document 01' "$ci$ones$cj\n" '39\tCI\tC1' '69\tCJ\t-'
+say 'the example without its line feed' "$ci$ones$cj" '39\tCI\tC1' '69\tCJ\t-'
+say 'the example, a bit a line' "$(fold -w 1 <<<"$ci$ones$cj")" '39\tCI\tC1' '69\tCJ\t-'
+say 'no input' ''
+say 'line feeds alone' '\n\n\n'
+say 'bits that report nothing' '0101\n'
+say 'bytes that are no bits' 'x11111 11111\r\n' '0\tR1\t-' '5\tR1\t-' '10\tR1\t-'
+say 'the bytes 0, 255 and 2' '1\0\03772' '1\tR1\t-' '1\tR1\t-' '1\tR1\t-'
+say 'bytes that are no bits, in a message' "11111x11111${ci#"$ones"}${ones}y" '5\tR1\t-' '39\tCI\tC1' '40\tR1\t-'
+say 'a menu without octets' "${ones}0000001111$ones" '29\tMENU\t-'
+say 'a sequence cut short' "${ci}10${ones}" '31\tR13\t-'
+
+# Copies of a menu, with a line feed after each 61 bits: a copy ends with the ten 1s of the next.
+copies=20000
+awk -v copies="$copies" 'BEGIN {
+    for (i = 0; i < copies; i++) printf "1111111111000000111101000001110101000101011001000100000100110010101001"
+    print "1111111111"
+}' | fold -w 61 >"$work/menus"
+awk -v copies="$copies" 'BEGIN {
+    print "bit\twhat\toctets"
+    for (i = 0; i < copies; i++) printf "%d\tMENU\tC1 45 13 90 2A\n", 79 + 70 * i
+}' >"$work/menus.listing"
+check "$copies menus" "$work/menus" "$work/menus.listing" 1 4095 65537 7 65535 131073
+
+printf '%s runs, %s differ\n' "$runs" "$differ"
+[ "$differ" -eq 0 ]
