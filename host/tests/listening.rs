@@ -163,8 +163,8 @@ impl Random {
         let most = if self.below(8) == 0 { 67 } else { 7 };
         let sync = match self.below(20) {
             0 => b"0101010101",
-            1..=6 => b"0000000001",
-            _ => b"0000001111",
+            1..=6 => CI,
+            _ => MENU,
         };
         let octets: Vec<u8> = (0..self.below(most))
             .map(|at| match (at, self.below(16)) {
@@ -174,15 +174,49 @@ impl Random {
             })
             .collect();
         for _ in 0..1 + self.below(3) {
-            line.extend([1; 10]);
-            line.extend(sync.map(|bit| bit - b'0'));
-            for octet in &octets {
-                line.push(0);
-                line.extend((0..8).map(|i| octet >> i & 1));
-                line.push(1);
-            }
+            line.extend(sequence(sync, &octets));
         }
     }
+}
+
+const CI: &[u8; 10] = b"0000000001";
+const MENU: &[u8; 10] = b"0000001111";
+
+/// Ten 1s, the sync, and the octets, whatever they are.
+fn sequence(sync: &[u8; 10], octets: &[u8]) -> Vec<u8> {
+    let mut bits = vec![1; 10];
+    bits.extend(sync.map(|bit| bit - b'0'));
+    for octet in octets {
+        bits.push(0);
+        bits.extend((0..8).map(|i| octet >> i & 1));
+        bits.push(1);
+    }
+    bits
+}
+
+/// What a fresh listener reports on the sequences and ten 1s behind them.
+fn reports(sequences: &[Vec<u8>]) -> Vec<Report> {
+    let mut listener = Listener::fresh();
+    let line = [sequences.concat(), vec![1; 10]].concat();
+    line.iter().map(|&bit| listener.hear(bit)).filter(|report| *report != Report::Nothing).collect()
+}
+
+#[test]
+fn a_menu_is_not_agreed_with_a_ci_of_the_same_octets() {
+    let (ci, menu) = (sequence(CI, &[0xc1]), sequence(MENU, &[0xc1]));
+    let [agreed, not] = [true, false].map(|agreed| Report::Menu { agreed });
+    assert_eq!(reports(&[ci.clone(), menu.clone(), menu.clone()]), [Report::Ci, not, agreed]);
+    assert_eq!(reports(&[menu.clone(), ci, menu]), [not, Report::Ci, not]);
+}
+
+#[test]
+fn a_65th_octet_is_refused_with_3_before_4() {
+    let mut octets = [0x10; 65];
+    octets[0] = 0xc1;
+    assert_eq!(reports(&[sequence(MENU, &octets[..64])]), [Report::Menu { agreed: false }]);
+    assert_eq!(reports(&[sequence(MENU, &octets)]), [Report::Refused(Refusal(4))]);
+    octets[64] = 0x18;
+    assert_eq!(reports(&[sequence(MENU, &octets)]), [Report::Refused(Refusal(3))]);
 }
 
 #[test]
@@ -215,6 +249,7 @@ fn every_line_is_heard_as_plain_rust_hears_it() {
         while at < line.len() {
             let piece = &line[at..line.len().min(at + 1 + random.below(100))];
             let (taken, report) = ours.hear_many(piece);
+            assert!(taken > 0, "{report:?} and nothing taken: {line:?}");
             ours_said.add(taken, report, ours.octets());
             for &bit in &piece[..taken] {
                 let report = rust.hear(bit);

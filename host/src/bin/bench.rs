@@ -61,6 +61,7 @@ fn many_at_once(mut bits: &[u8], mut hear_many: impl FnMut(&[u8]) -> (usize, Rep
     let mut reports = 0;
     while !bits.is_empty() {
         let (taken, report) = hear_many(bits);
+        assert!(taken > 0, "{report:?} and nothing taken");
         bits = &bits[taken..];
         reports += usize::from(report != Report::Nothing);
     }
@@ -70,7 +71,7 @@ fn many_at_once(mut bits: &[u8], mut hear_many: impl FnMut(&[u8]) -> (usize, Rep
 /// A fresh listener of each of the two hears the bits.
 fn hearing(name: &str, bits: &[u8]) {
     let (mut ours, mut rust) = (Listener::fresh(), plain::Listener::fresh());
-    let mut reports = [(); 4].map(|()| text::Reports::default());
+    let mut reports = [(); 5].map(|()| text::Reports::default());
     one_a_call(bits, |bit| {
         let report = ours.hear(bit);
         reports[0].add(1, report, ours.octets());
@@ -87,6 +88,12 @@ fn hearing(name: &str, bits: &[u8]) {
     many_at_once(bits, |rest| {
         let (taken, report) = rust.hear_many(rest);
         reports[3].add(taken, report, rust.octets());
+        (taken, report)
+    });
+    let mut tuned = plain::Listener::fresh();
+    many_at_once(bits, |rest| {
+        let (taken, report) = tuned.hear_many_tuned(rest);
+        reports[4].add(taken, report, tuned.octets());
         (taken, report)
     });
     let [first, others @ ..] = reports.map(|reports| reports.show());
@@ -114,6 +121,18 @@ fn hearing(name: &str, bits: &[u8]) {
         &mut || {
             let mut listener = plain::Listener::fresh();
             black_box(many_at_once(black_box(bits), |rest| listener.hear_many(rest)));
+        },
+    );
+    compare(
+        &format!("hear {name}, many, tuned Rust"),
+        bits.len(),
+        &mut || {
+            let mut listener = Listener::fresh();
+            black_box(many_at_once(black_box(bits), |rest| listener.hear_many(rest)));
+        },
+        &mut || {
+            let mut listener = plain::Listener::fresh();
+            black_box(many_at_once(black_box(bits), |rest| listener.hear_many_tuned(rest)));
         },
     );
 }

@@ -77,6 +77,18 @@ impl Listener {
     /// Hears bits up to the first that reports something, and says how many that are.
     #[inline(never)]
     pub fn hear_many(&mut self, bits: &[u8]) -> (usize, Report) {
+        for (at, &bit) in bits.iter().enumerate() {
+            let report = self.step(bit);
+            if report != Report::Nothing {
+                return (at + 1, report);
+            }
+        }
+        (bits.len(), Report::Nothing)
+    }
+
+    /// The same, with loops of their own for the bits that only go by: how fast Rust can be made to be.
+    #[inline(never)]
+    pub fn hear_many_tuned(&mut self, bits: &[u8]) -> (usize, Report) {
         let mut at = 0;
         loop {
             at += self.pass(&bits[at..]);
@@ -130,7 +142,7 @@ impl Listener {
             Place::Hunting => {
                 if ten_ones_and_0(self.past) {
                     self.place = Place::Sync(9);
-                // CJ ends here or at a stop bit: at all other places a 1 stands among the nine bits before.
+                // CJ ends here or at a stop bit: elsewhere the last thirty bits hold 1s that CJ has not.
                 } else if is_cj(self.past) {
                     return Report::Cj;
                 }
