@@ -62,3 +62,7 @@ module _ (s : List ℕ) (i : ℕ) where
 
   pub group-on : groupEnds s i ≡ false → (i < length s) × (untilCategory (drop i s) ≡ suc (untilCategory (drop (i + 1) s)))
   group-on e = on-by (ltb i (length s)) refl e
+
+  pub until-end : length s ≤ i → untilCategory (drop i s) ≡ 0
+  unfolding untilCategory
+  until-end h = simp (drop-of-length-le s h)

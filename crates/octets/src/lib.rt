@@ -4,7 +4,7 @@ ghost use Prim.Native.Nat.{_+_, _≤_};
 ghost use lib.ListN.{length, drop};
 ghost use Rattle.laws.specs.Tests.{sameList};
 ghost use Rattle.octets.specs.Refusals.{number, fault};
-ghost use Rattle.octets.specs.Octets.{category, tag, bad};
+ghost use Rattle.octets.specs.Octets.{category, tag, options, bad};
 ghost use Rattle.octets.specs.Lists.{categoryFault, octetFault, firstFault, opens, listFault, groupEnds};
 
 // What document 01 refuses, in the order of its numbers.
@@ -62,16 +62,22 @@ pub fn refusal_number(r: Refusal) -> u8
     }
 }
 
-fn is_category(b: u8) -> bool
+pub fn is_category(b: u8) -> bool
     ensures { λ r. ⌜ r ≡ category b ⌝ }
 {
     b / 16 % 2 == 0
 }
 
-fn tag_of(b: u8) -> u8
+pub fn tag_of(b: u8) -> u8
     ensures { λ r. ⌜ r ≡ tag b ⌝ }
 {
     b % 16
+}
+
+pub fn options_of(b: u8) -> u8
+    ensures { λ r. ⌜ r ≡ options b ⌝ }
+{
+    b / 32 % 8
 }
 
 pub fn is_bad(b: u8) -> bool

@@ -1,0 +1,4 @@
+pub mod Places
+pub mod Looking
+pub mod Reading
+pub mod Sets

@@ -1,0 +1,59 @@
+-- Laws about groups, one octet at a time: what a loop over a message cites.
+-- Assumes nothing.
+use Prim.Native.Nat.{ℕ, suc, _<_, _≤_, _+_, _-_}
+use native.Mathlib.Numerals.{add-one}
+use native.Mathlib.Omega.{arith}
+use mathlib.Core.Path.{_≡_, refl, sym, ap, _∙_}
+use mathlib.Core.Bool.{Bool, true, false}
+use mathlib.Core.List.{List, [], _∷_}
+use borrow.Author.Tests.{eq-eqb, ne-eqb}
+use lib.Dec.{eqb}
+use lib.ListN.{length, take, drop, getD, drop-of-length-le}
+use lib.Seq.{drop-cons}
+use Rattle.laws.specs.Choice.{choose}
+use Rattle.octets.specs.declared.Purpose.the-variants.{Reading}
+use Rattle.octets.specs.declared.Refusal.{Refusal}
+use Rattle.octets.specs.Refusals.{number}
+use Rattle.octets.specs.Octets.{category}
+use Rattle.octets.specs.Lists.{listFault, untilCategory}
+use Rattle.octets.proofs.Numbers.{number-some}
+use Rattle.menus.specs.Groups.{Looked, place, nowhere, refusal, opensGroup, firstGroup, looked, frontPart, partAt}
+
+module _ (t : ℕ) (s : List ℕ) (i : ℕ) where
+  pub group-here : i < length s → opensGroup t (getD s i 0) ≡ true → firstGroup t i (drop i s) ≡ place i
+  unfolding firstGroup choose
+  group-here h e = simp (drop-cons s i 0 h, e)
+
+  pub group-later : i < length s → opensGroup t (getD s i 0) ≡ false → firstGroup t i (drop i s) ≡ firstGroup t (i + 1) (drop (i + 1) s)
+  unfolding firstGroup choose
+  group-later h e = simp (drop-cons s i 0 h, e, add-one)
+
+  pub group-none : length s ≤ i → firstGroup t i (drop i s) ≡ nowhere
+  unfolding firstGroup
+  group-none h = simp (drop-of-length-le s h)
+
+-- by whether the message can be read
+module _ (octets : List ℕ) (t : ℕ) where
+  pub looked-read : listFault Reading octets ≡ 0 → looked octets t ≡ firstGroup t 0 octets
+  unfolding looked choose
+  looked-read e = simp (eq-eqb _ _ e)
+
+  pub looked-refused : (r : Refusal) → number r ≡ listFault Reading octets → refusal (number r) ≡ looked octets t
+  unfolding looked choose
+  looked-refused r e = simp (ne-eqb (listFault Reading octets) 0 (λ z. number-some r (e ∙ z))) (ap refusal e)
+
+-- the part of a place
+module _ (s : List ℕ) (i : ℕ) where
+  pub part-here : i < length s → category (getD s i 0) ≡ true → (r : ℕ) → r ≡ i + 1 + untilCategory (drop (i + 1) s) → take (r - i) (drop i s) ≡ partAt s i
+  unfolding frontPart choose
+  part-here h c r e =
+      let n : r - i ≡ suc (untilCategory (drop (i + 1) s)) = omega arith in
+      simp (n, drop-cons s i 0 h, c, add-one)
+
+  pub part-not : i < length s → category (getD s i 0) ≡ false → partAt s i ≡ []
+  unfolding frontPart choose
+  part-not h c = simp (drop-cons s i 0 h, c)
+
+  pub part-past : length s ≤ i → partAt s i ≡ []
+  unfolding frontPart
+  part-past h = simp (drop-of-length-le s h)

@@ -1,0 +1,51 @@
+-- Laws about the places of items: the table that the code holds gives them, and what callers need of them.
+-- Assumes nothing.
+use Prim.Native.Nat.{ℕ, _<_, _≤_, _%_, _/_}
+use mathlib.Core.Path.{_≡_, sym, ap, _∙_}
+use mathlib.Core.Bool.{Bool, false}
+use mathlib.Core.List.{List, [], _∷_}
+use borrow.Author.Tests.{ne-eqb}
+use native.Mathlib.Omega.{arith}
+use lib.Dec.{T, ltb, ltb→lt, eqb, eqb→eq}
+use lib.ListN.{length, getD, List·getD-eq-default}
+use Rattle.laws.specs.Choice.{both}
+use Rattle.laws.specs.Tests.{allBelow}
+use Rattle.laws.proofs.Computed.{below, both-left, both-right}
+use Rattle.menus.specs.declared.ItemPlace.{ItemPlace}
+use Rattle.menus.specs.Items.{places, placeOf, bitOf, hasItem}
+
+-- the table of the code: 8 for each octet before it, and the bit
+abbrev pub table : List ℕ
+table = 5 ∷ 6 ∷ 7 ∷ 8 ∷ 9 ∷ 10 ∷ 14 ∷ 15 ∷ 16 ∷ 17 ∷ 18 ∷ 22 ∷ 23 ∷ []
+
+abbrev made : ℕ → ℕ → ItemPlace
+made octet bit = record { octet = octet; bit = record { 0 = bit } }
+
+abbrev agrees : ℕ → Bool
+agrees i = both (eqb (getD table i 0 / 8) (placeOf i .octet)) (eqb (getD table i 0 % 8) (placeOf i .bit .0))
+
+module _ (i : ℕ) (h : i < 13) where
+  entry : T (agrees i)
+  unfolding places placeOf allBelow both
+  entry = below agrees 13 tt i h
+
+  pub place-at : _≡_ {A = ItemPlace} (record { octet = getD table i 0 / 8; bit = record { 0 = getD table i 0 % 8 } }) (placeOf i)
+  place-at =
+      let octet = eqb→eq (getD table i 0 / 8) (placeOf i .octet) (both-left _ _ entry) in
+      let bit = eqb→eq (getD table i 0 % 8) (placeOf i .bit .0) (both-right (eqb (getD table i 0 / 8) (placeOf i .octet)) _ entry) in
+      ap (λ (n : ℕ). made n (getD table i 0 % 8)) octet ∙ ap (λ (n : ℕ). made (placeOf i .octet) n) bit
+
+  -- a bit number is one of an octet's
+  pub place-bit : placeOf i .bit .0 < 8
+  unfolding places placeOf allBelow both
+  place-bit = ltb→lt (placeOf i .bit .0) 8 (below (λ (k : ℕ). ltb (placeOf k .bit .0) 8) 13 tt i h)
+
+-- an octet that is not there has no bits
+zero-bit : (k : ℕ) → k < 8 → bitOf k 0 ≡ 0
+unfolding allBelow both
+zero-bit k h = eqb→eq (bitOf k 0) 0 (below (λ (j : ℕ). eqb (bitOf j 0) 0) 8 tt k h)
+
+pub item-past : (group : List ℕ) (i : ℕ) → i < 13 → length group ≤ placeOf i .octet → hasItem group i ≡ false
+unfolding hasItem
+item-past group i h past =
+    ne-eqb (bitOf (placeOf i .bit .0) (getD group (placeOf i .octet) 0)) 1 (λ e. let z : bitOf (placeOf i .bit .0) (getD group (placeOf i .octet) 0) ≡ 0 = ap (λ (b : ℕ). bitOf (placeOf i .bit .0) b) (List·getD-eq-default group 0 past) ∙ zero-bit (placeOf i .bit .0) (place-bit i h) in omega (arith, e, z))

@@ -1,0 +1,53 @@
+-- Reading a menu, by whether its octets can be read; and that answers are known by what they say.
+-- Assumes nothing.
+use Prim.Native.Nat.{ℕ}
+use mathlib.Core.Path.{_≡_, refl, sym, ap, _∙_}
+use mathlib.Core.List.{List}
+use borrow.Author.Tests.{eq-eqb, ne-eqb}
+use Rattle.laws.specs.Choice.{choose}
+use Rattle.octets.specs.declared.Purpose.the-variants.{Reading}
+use Rattle.octets.specs.declared.Refusal.{Refusal}
+use Rattle.octets.specs.Refusals.{number}
+use Rattle.octets.specs.Lists.{listFault}
+use Rattle.octets.proofs.Numbers.{named, named-number, number-some}
+use Rattle.menus.specs.declared.Found.{Found}
+use Rattle.menus.specs.declared.Found.the-variants as found
+use Rattle.menus.specs.declared.Menu.{Menu}
+use Rattle.menus.specs.declared.Menu.the-variants.{Offers, Refused}
+use Rattle.menus.specs.Groups.{Looked, place, nowhere, says}
+use Rattle.menus.specs.Groups as groups
+use Rattle.menus.specs.Offer.{Read, offers, refusal, offerOf, saysRead, menuRead}
+
+module _ (octets : List ℕ) where
+  pub menu-read : listFault Reading octets ≡ 0 → menuRead octets ≡ offers (offerOf octets)
+  unfolding menuRead choose
+  menu-read e = simp (eq-eqb _ _ e)
+
+  pub menu-refused : (r : Refusal) → number r ≡ listFault Reading octets → refusal (number r) ≡ menuRead octets
+  unfolding menuRead choose
+  menu-refused r e = simp (ne-eqb (listFault Reading octets) 0 (λ z. number-some r (e ∙ z))) (ap refusal e)
+
+-- no two answers say the same
+abbrev finding : Looked → Found
+finding (place n) = found.At n
+finding nowhere = found.Nothing
+finding (groups.refusal n) = found.Refused (named n)
+
+finding-says : (f : Found) → finding (says f) ≡ f
+finding-says (found.At n) = refl
+finding-says found.Nothing = refl
+finding-says (found.Refused r) = ap found.Refused (named-number r)
+
+pub says-injective : (f g : Found) → says f ≡ says g → f ≡ g
+says-injective f g e = sym (finding-says f) ∙ ap finding e ∙ finding-says g
+
+abbrev reading : Read → Menu
+reading (offers o) = Offers o
+reading (refusal n) = Refused (named n)
+
+reading-says : (m : Menu) → reading (saysRead m) ≡ m
+reading-says (Offers o) = refl
+reading-says (Refused r) = ap Refused (named-number r)
+
+pub says-read-injective : (m n : Menu) → saysRead m ≡ saysRead n → m ≡ n
+says-read-injective m n e = sym (reading-says m) ∙ ap reading e ∙ reading-says n

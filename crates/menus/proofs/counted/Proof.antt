@@ -1,0 +1,19 @@
+use borrow.Author.Tests.{lt-ltb, le-ltb}
+use Rattle.laws.specs.Choice.{choose}
+use borrow.Author.Needs.{needs}
+use Rattle.menus.proofs.counted.Statement.{statement}
+use Rattle.menus.proofs.counted.Tie as tie
+
+options-in-requires : tie.Need-options-in-requires
+options-in-requires c κs = search needs
+
+returns : tie.Need-returns
+unfolding choose
+returns c = simp (c .options-in .ensures, lt-ltb _ _ (c .before .if1 .taken))
+
+returns-2 : tie.Need-returns-2
+unfolding choose
+returns-2 c = simp (le-ltb _ _ (c .if1 .left))
+
+pub counted-spec : {M : Type 1} → statement M
+counted-spec = tie.close (tie.spec options-in-requires returns returns-2)

@@ -1,0 +1,46 @@
+use mathlib.Core.Path.{sym, ap, _∙_}
+use denote.Ref.{now}
+use Rattle.octets.specs.Refusals.{fault}
+use Rattle.menus.proofs.Looking.{looked-refused, looked-read}
+use borrow.Author.Needs.{needs}
+use Rattle.menus.proofs.find.Statement.{statement}
+use Rattle.menus.proofs.find.Tie as tie
+
+test-requires : tie.Need-test-requires
+test-requires c κs = search needs
+
+enum-known-verdict : tie.Need-enum-known-verdict
+enum-known-verdict c = search needs
+
+enum-told : tie.Need-enum-told
+enum-told c = search needs
+
+first-group-requires : tie.Need-first-group-requires
+first-group-requires c κs = search needs
+
+found-at-requires : tie.Need-found-at-requires
+found-at-requires c κs = search needs
+
+returns : tie.Need-returns
+returns c =
+    let t = c .before .before .before in
+    let a = t .before .before .args in
+    looked-refused (now (a .octets)) (a .tag) (c .before .verdict .given .0 .0) (ap fault (sym (c .before .verdict .given .1)) ∙ t .test .ensures)
+
+returns-2 : tie.Need-returns-2
+returns-2 c =
+    let t = c .before .before .before .before in
+    let a = t .before .before .args in
+    c .found-at .ensures ∙ c .before .first-group .ensures ∙ sym (looked-read (now (a .octets)) (a .tag) (sym (t .test .ensures) ∙ ap fault (c .before .before .enum-told .given .1)))
+
+pub find-spec : {M : Type 1} → statement M
+find-spec =
+    tie.close
+    (tie.spec
+    test-requires
+    enum-known-verdict
+    enum-told
+    first-group-requires
+    found-at-requires
+    returns
+    returns-2)

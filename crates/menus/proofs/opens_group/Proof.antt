@@ -1,0 +1,21 @@
+use Rattle.laws.specs.Choice.{both}
+use borrow.Author.Needs.{needs}
+use Rattle.menus.proofs.opens_group.Statement.{statement}
+use Rattle.menus.proofs.opens_group.Tie as tie
+
+is-category-requires : tie.Need-is-category-requires
+is-category-requires c κs = search needs
+
+tag-of-requires : tie.Need-tag-of-requires
+tag-of-requires c κs = search needs
+
+returns : tie.Need-returns
+unfolding both
+returns c = simp (c .tag-of .ensures, c .before .if1 .taken, ← c .before .before .is-category .ensures)
+
+returns-2 : tie.Need-returns-2
+unfolding both
+returns-2 c = simp (c .if1 .left, ← c .before .is-category .ensures)
+
+pub opens-group-spec : {M : Type 1} → statement M
+opens-group-spec = tie.close (tie.spec is-category-requires tag-of-requires returns returns-2)

@@ -1,0 +1,19 @@
+use native.Mathlib.Omega.{arith}
+use Rattle.laws.specs.Choice.{choose}
+use borrow.Author.Needs.{needs}
+use Rattle.menus.proofs.with_item.Statement.{statement}
+use Rattle.menus.proofs.with_item.Tie as tie
+
+add-result : tie.Need-add-result
+add-result c = search needs
+
+returns : tie.Need-returns
+unfolding choose
+returns c = simp (c .if1 .taken)
+
+returns-2 : tie.Need-returns-2
+unfolding choose
+returns-2 c = simp (c .if1 .left) (omega arith)
+
+pub with-item-spec : {M : Type 1} → statement M
+with-item-spec = tie.close (tie.spec add-result returns returns-2)

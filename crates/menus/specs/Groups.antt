@@ -1,0 +1,66 @@
+-- Document 01, 'Octets of the menu': groups, looking for a tag, the part of a place.
+use Prim.Native.Nat.{ℕ, suc, _+_}
+use mathlib.Core.Bool.{Bool, true, false}
+use mathlib.Core.List.{List, [], _∷_}
+use lib.Dec.{eqb}
+use lib.ListN.{take, drop, getD}
+use Rattle.laws.specs.Choice.{choose, both}
+use Rattle.octets.specs.declared.Purpose.the-variants.{Reading}
+use Rattle.octets.specs.Refusals.{number}
+use Rattle.octets.specs.Octets.{category, tag, options}
+use Rattle.octets.specs.Lists.{listFault, untilCategory}
+use Rattle.menus.specs.declared.Spot.{Spot}
+use Rattle.menus.specs.declared.Spot.the-variants.{At, Nowhere}
+use Rattle.menus.specs.declared.Found.{Found}
+use Rattle.menus.specs.declared.Found.the-variants as found
+
+-- what looking gives: a place, nothing, or a refusal's number
+pub data Looked : Type 0 where
+  place : ℕ → Looked
+  nowhere : Looked
+  refusal : ℕ → Looked
+
+-- what an answer says on paper
+abbrev pub says : Found → Looked
+says (found.At n) = place n
+says found.Nothing = nowhere
+says (found.Refused r) = refusal (number r)
+
+abbrev pub saysSpot : Spot → Looked
+saysSpot (At n) = place n
+saysSpot Nowhere = nowhere
+
+-- a category octet with this tag
+abbrev pub opensGroup : ℕ → ℕ → Bool
+opensGroup t b = both (category b) (eqb (tag b) t)
+
+-- "the place of its first group, or the answer that there is none", counted from i
+unfoldable pub firstGroup : ℕ → ℕ → List ℕ → Looked
+firstGroup t i [] = nowhere
+firstGroup t i (b ∷ bs) = choose (opensGroup t b) (place i) (firstGroup t (i + 1) bs)
+
+-- "Looking refuses with 4, 5 and 3 as reading does; a tag over 15 is nowhere."
+unfoldable pub looked : List ℕ → ℕ → Looked
+looked octets t = choose (eqb (listFault Reading octets) 0) (firstGroup t 0 octets) (refusal (listFault Reading octets))
+
+-- the category octet in front, and what follows "up to the next octet with b4 = 0"
+unfoldable pub frontPart : List ℕ → List ℕ
+frontPart [] = []
+frontPart (b ∷ bs) = choose (category b) (b ∷ take (untilCategory bs) bs) []
+
+-- "that stretch of the lent message itself ..; a place that holds no category octet gives the empty part"
+abbrev pub partAt : List ℕ → ℕ → List ℕ
+partAt octets i = frontPart (drop i octets)
+
+-- "The first group of a tag counts"; a missing group is the empty part
+abbrev pub partOf : List ℕ → Looked → List ℕ
+partOf octets (place i) = partAt octets i
+partOf octets nowhere = []
+partOf octets (refusal n) = []
+
+unfoldable pub groupOf : List ℕ → ℕ → List ℕ
+groupOf octets t = partOf octets (firstGroup t 0 octets)
+
+-- the options of its category octet, 0 where it is missing
+abbrev pub optionsIn : List ℕ → ℕ
+optionsIn group = options (getD group 0 0)

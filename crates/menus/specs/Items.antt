@@ -1,0 +1,38 @@
+-- Document 01, 'Octets of the menu': where the items stand in the modulation group.
+use Prim.Native.Nat.{ℕ, zero, suc, _+_, _%_, _/_, _^_}
+use mathlib.Core.Bool.{Bool}
+use mathlib.Core.List.{List, [], _∷_}
+use lib.Dec.{eqb}
+use lib.ListN.{getD}
+use Rattle.laws.specs.Choice.{choose}
+use Rattle.menus.specs.declared.Bit.{Bit}
+use Rattle.menus.specs.declared.Item.{Item}
+use Rattle.menus.specs.declared.ItemPlace.{ItemPlace}
+
+abbrev at : ℕ → ℕ → ItemPlace
+at octet bit = record { octet = octet; bit = record { 0 = bit } }
+
+-- "Items 0, 1, 2 are b5, b6, b7 of the modulation category octet. Items 3 to 7 are b0, b1, b2, b6, b7 of the first extension octet,
+-- items 8 to 12 the same bits of the second."
+unfoldable pub places : List ItemPlace
+places = at 0 5 ∷ at 0 6 ∷ at 0 7 ∷ at 1 0 ∷ at 1 1 ∷ at 1 2 ∷ at 1 6 ∷ at 1 7 ∷ at 2 0 ∷ at 2 1 ∷ at 2 2 ∷ at 2 6 ∷ at 2 7 ∷ []
+
+unfoldable pub placeOf : ℕ → ItemPlace
+placeOf item = getD places item (at 0 0)
+
+-- a bit of an octet
+abbrev pub bitOf : ℕ → ℕ → ℕ
+bitOf bit b = b / 2 ^ bit % 2
+
+-- the item stands in the group; an octet that is not there has none
+unfoldable pub hasItem : List ℕ → ℕ → Bool
+hasItem group item = eqb (bitOf (placeOf item .bit .0) (getD group (placeOf item .octet) 0)) 1
+
+-- a set of items below n as a number, bit i for item i
+unfoldable pub setOf : (ℕ → Bool) → ℕ → ℕ
+setOf f zero = 0
+setOf f (suc n) = setOf f n + choose (f n) (2 ^ n) 0
+
+-- items 0 to 12 of a modulation group
+abbrev pub itemsOf : List ℕ → ℕ
+itemsOf group = setOf (hasItem group) 13
