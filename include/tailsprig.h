@@ -14,6 +14,7 @@
 #ifndef TAILSPRIG_H
 #define TAILSPRIG_H
 
+#include <stdbool.h>
 #include <stddef.h>
 #include <stdint.h>
 
@@ -152,6 +153,46 @@ struct tailsprig_ran {
  * The loop ends: a record from tailsprig_fresh is never refused with 10, so each call takes at least one byte.
  */
 struct tailsprig_ran tailsprig_hear_many(struct tailsprig_listener rec, const uint8_t *bits, size_t len);
+
+/*
+ * Menus. A message is a list of octets, as tailsprig_hear leaves it in `msg`. Looking and reading refuse the same lists, in
+ * this order:
+ *    4  more than 64 octets
+ *    5  no octets, or the first one is not a category octet with tag 1
+ *    3  an octet with b4 = 1 and b3 or b5 = 1
+ */
+
+/* What tailsprig_find answers where no group has the tag: no place is as high. */
+#define TAILSPRIG_NOWHERE 64
+
+/* The place, counted from 0, of the first group with this tag; TAILSPRIG_NOWHERE, also for a tag over 15; or a refusal. */
+int32_t tailsprig_find(const uint8_t *octets, size_t octets_len, uint8_t tag);
+
+/*
+ * How many octets the part of a place has: the category octet there and the octets behind it up to the next one with
+ * b4 = 0. The part is octets[place .. place + answer - 1] of the message itself. A place without a category octet, or past
+ * the end, has the empty part, 0.
+ */
+size_t tailsprig_part(const uint8_t *octets, size_t octets_len, size_t place);
+
+/* What a menu offers. The first group of a tag counts; groups that V.8 does not define are passed over. */
+struct tailsprig_offer {
+    uint8_t function;       /* the call function: 1 H.324, 2 textphone, 3 videotex, 4 fax sent by the caller, 5 fax received
+                               by the caller, 6 data. 0 and 7 are read too */
+    uint16_t items;         /* bit i for item i, items 0 to 12; those past a short modulation group are absent */
+    uint8_t pcm;            /* PCM options b5 to b7 as a number, b5 lowest; 0 where the group does not count */
+    bool lapm;              /* the protocol group says LAPM */
+    bool access;            /* an access group stands in the menu */
+    uint8_t access_options; /* its options, b5 lowest: 1 caller cellular, 2 answerer cellular, 4 digital network */
+};
+
+struct tailsprig_menu_read {
+    struct tailsprig_offer offer; /* all 0 beside a refusal */
+    int32_t code;                 /* 0, or a refusal n as -n */
+};
+
+/* Reads a menu. */
+struct tailsprig_menu_read tailsprig_read(const uint8_t *octets, size_t octets_len);
 
 #ifdef __cplusplus
 }

@@ -38,6 +38,24 @@ pub mod c {
         pub code: i32,
     }
 
+    #[derive(Clone, Copy, Debug, PartialEq, Eq)]
+    #[repr(C)]
+    pub struct Offer {
+        pub function: u8,
+        pub items: u16,
+        pub pcm: u8,
+        pub lapm: bool,
+        pub access: bool,
+        pub access_options: u8,
+    }
+
+    #[derive(Clone, Copy, Debug, PartialEq, Eq)]
+    #[repr(C)]
+    pub struct MenuRead {
+        pub offer: Offer,
+        pub code: i32,
+    }
+
     extern "C" {
         pub fn tailsprig_write(
             kind: u8,
@@ -51,6 +69,9 @@ pub mod c {
         pub fn tailsprig_fresh() -> Listener;
         pub fn tailsprig_hear(rec: *mut Listener, bit: u8) -> i32;
         pub fn tailsprig_hear_many(rec: Listener, bits: *const u8, len: usize) -> Ran;
+        pub fn tailsprig_find(octets: *const u8, octets_len: usize, tag: u8) -> i32;
+        pub fn tailsprig_part(octets: *const u8, octets_len: usize, place: usize) -> usize;
+        pub fn tailsprig_read(octets: *const u8, octets_len: usize) -> MenuRead;
     }
 }
 
@@ -140,4 +161,30 @@ impl Listener {
     pub fn octets(&self) -> &[u8] {
         &self.0.msg.octets[..usize::from(self.0.msg.len)]
     }
+}
+
+/// Looks for a tag: the place of its first group, or `None` where there is none.
+pub fn find(octets: &[u8], tag: u8) -> Result<Option<usize>, Refusal> {
+    /// What C gets where no group has the tag.
+    const NOWHERE: usize = 64;
+    // SAFETY: the slice is lent for the call alone, with its length.
+    let place = count(unsafe { c::tailsprig_find(octets.as_ptr(), octets.len(), tag) })?;
+    Ok((place != NOWHERE).then_some(place))
+}
+
+/// The part of a place: the category octet there and its extension octets, or nothing.
+pub fn part(octets: &[u8], place: usize) -> &[u8] {
+    // SAFETY: as for `find`.
+    let len = unsafe { c::tailsprig_part(octets.as_ptr(), octets.len(), place) };
+    if len == 0 {
+        return &[];
+    }
+    &octets[place..place + len]
+}
+
+/// Reads a menu.
+pub fn read(octets: &[u8]) -> Result<c::Offer, Refusal> {
+    // SAFETY: as for `find`.
+    let menu = unsafe { c::tailsprig_read(octets.as_ptr(), octets.len()) };
+    count(menu.code).map(|_| menu.offer)
 }

@@ -39,6 +39,14 @@ pub fn show_bits(bits: &[u8]) -> String {
     bits.iter().map(|bit| char::from(b'0' + bit)).collect()
 }
 
+/// Octets as they are read; `-` where there are none.
+pub fn show_octets(octets: &[u8]) -> String {
+    if octets.is_empty() {
+        return "-".to_string();
+    }
+    octets.iter().map(|octet| format!("{octet:02X}")).collect::<Vec<_>>().join(" ")
+}
+
 /// `R` and the number.
 pub fn show_refusal(refusal: Refusal) -> String {
     format!("R{}", refusal.0)

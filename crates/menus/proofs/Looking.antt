@@ -6,16 +6,18 @@ use native.Mathlib.Omega.{arith}
 use mathlib.Core.Path.{_≡_, refl, sym, ap, _∙_}
 use mathlib.Core.Bool.{Bool, true, false}
 use mathlib.Core.List.{List, [], _∷_}
-use borrow.Author.Tests.{eq-eqb, ne-eqb}
+use borrow.Author.Tests.{eq-eqb, ne-eqb, eqb-true}
 use lib.Dec.{eqb}
 use lib.ListN.{length, take, drop, getD, drop-of-length-le}
 use lib.Seq.{drop-cons}
 use Rattle.laws.specs.Choice.{choose}
+use Rattle.laws.proofs.Chosen.{chosen}
 use Rattle.octets.specs.declared.Purpose.the-variants.{Reading}
 use Rattle.octets.specs.declared.Refusal.{Refusal}
 use Rattle.octets.specs.Refusals.{number}
 use Rattle.octets.specs.Octets.{category}
 use Rattle.octets.specs.Lists.{listFault, untilCategory}
+use Rattle.octets.proofs.Lists.{accepted-short}
 use Rattle.octets.proofs.Numbers.{number-some}
 use Rattle.menus.specs.Groups.{Looked, place, nowhere, refusal, opensGroup, firstGroup, looked, frontPart, partAt}
 
@@ -31,6 +33,32 @@ module _ (t : ℕ) (s : List ℕ) (i : ℕ) where
   pub group-none : length s ≤ i → firstGroup t i (drop i s) ≡ nowhere
   unfolding firstGroup
   group-none h = simp (drop-of-length-le s h)
+
+-- a place below m, if it is one
+abbrev pub Below : ℕ → Looked → Type 0
+Below m (place n) = n < m
+Below m nowhere = Unit
+Below m (refusal n) = Unit
+
+wider : (m k : ℕ) (l : Looked) → m ≤ k → Below m l → Below k l
+wider m k (place n) h b = omega arith
+wider m k nowhere h b = tt
+wider m k (refusal n) h b = tt
+
+-- no group stands past the end
+group-below : (t i : ℕ) (s : List ℕ) → Below (i + length s) (firstGroup t i s)
+unfolding firstGroup
+group-below t i [] = tt
+group-below t i (b ∷ s) =
+    chosen (Below (i + suc (length s))) (opensGroup t b) (place i) (firstGroup t (i + 1) s) (λ _. omega arith)
+    (λ _. wider (i + 1 + length s) (i + suc (length s)) (firstGroup t (i + 1) s) (omega arith) (group-below t (i + 1) s))
+
+pub looked-below : (octets : List ℕ) (t : ℕ) → Below 64 (looked octets t)
+unfolding looked
+looked-below octets t =
+    chosen (Below 64) (eqb (listFault Reading octets) 0) (firstGroup t 0 octets) (refusal (listFault Reading octets))
+    (λ e. wider (0 + length octets) 64 (firstGroup t 0 octets) (omega (arith, accepted-short Reading octets (eqb-true (listFault Reading octets) 0 e))) (group-below t 0 octets))
+    (λ _. tt)
 
 -- by whether the message can be read
 module _ (octets : List ℕ) (t : ℕ) where

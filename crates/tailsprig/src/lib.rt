@@ -2,6 +2,9 @@
 use listening::Ear;
 use listening::Heard;
 use listening::Listener;
+use menus::Found;
+use menus::Menu;
+use menus::Offer;
 use octets::Kind;
 use octets::Refusal;
 use sequences::Wrote;
@@ -11,7 +14,12 @@ ghost use Rattle.listening.specs.Record.{fresh};
 ghost use Rattle.listening.specs.Hearing.{heard, heardMany};
 ghost use Rattle.listening.specs.Hearing as hearing;
 ghost use Rattle.listening.specs.Parts.{touches, lightlyTold, Told16};
+ghost use lib.ListN.{length};
+ghost use Rattle.menus.specs.Groups.{looked, partAt};
+ghost use Rattle.menus.specs.Groups as groups;
+ghost use Rattle.menus.specs.Offer.{menuRead};
 ghost use Rattle.octets.specs.Refusals.{number};
+ghost use Rattle.tailsprig.specs.Reading.{lookedCode, SmallLooked, noOffer, ReadsAs};
 ghost use Rattle.sequences.specs.Writing.{says, writtenCj};
 ghost use Rattle.tailsprig.specs.Hearing.{toldCode, lightOf, heavyOf, HearsAs, RunsAs};
 ghost use Rattle.tailsprig.specs.Codes.{code, Small, Returns, kindOf, writtenAs};
@@ -190,5 +198,71 @@ pub extern "C" fn tailsprig_hear_many(rec: Listener, bits: &[u8]) -> Ran
         rec: next,
         taken: ran.taken,
         code: heard_code(heard),
+    }
+}
+
+// A menu as C gets it: 0 and what it offers, or a refusal and nothing.
+#[repr(C)]
+pub struct MenuRead {
+    pub offer: Offer,
+    pub code: i32,
+}
+
+fn found_code(f: Found) -> i32
+    requires { ⌜ SmallLooked (groups.says f) ⌝ }
+    ensures { λ n. ⌜ n ≡ lookedCode (groups.says f) ⌝ }
+{
+    match f {
+        Found::At(place) => place as i32,
+        Found::Nothing => 64,
+        Found::Refused(r) => refused(r),
+    }
+}
+
+// Where the first group of a tag stands, or 64 where there is none.
+#[no_mangle]
+pub extern "C" fn tailsprig_find(octets: &[u8], tag: u8) -> i32
+    ensures { λ r. ⌜ r ≡ lookedCode (looked (now (octets .entry)) tag) ⌝ }
+{
+    found_code(menus::find(octets, tag))
+}
+
+// How many octets the part of a place has.
+#[no_mangle]
+pub extern "C" fn tailsprig_part(octets: &[u8], place: usize) -> usize
+    ensures { λ r. ⌜ r ≡ length (partAt (now (octets .entry)) place) ⌝ }
+{
+    let part = menus::part(octets, place);
+    part.len()
+}
+
+fn no_offer() -> Offer
+    ensures { λ r. ⌜ r ≡ noOffer ⌝ }
+{
+    Offer {
+        function: 0,
+        items: 0,
+        pcm: 0,
+        lapm: false,
+        access: false,
+        access_options: 0,
+    }
+}
+
+// Reads a menu.
+#[no_mangle]
+pub extern "C" fn tailsprig_read(octets: &[u8]) -> MenuRead
+    ensures { λ r. ⌜ ReadsAs (menuRead (now (octets .entry))) r ⌝ }
+{
+    let menu = menus::read(octets);
+    match menu {
+        Menu::Offers(offer) => MenuRead {
+            offer: offer,
+            code: 0,
+        },
+        Menu::Refused(r) => MenuRead {
+            offer: no_offer(),
+            code: refused(r),
+        },
     }
 }

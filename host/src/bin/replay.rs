@@ -8,7 +8,13 @@ use tailsprig::{text, Listener, Report};
 type Call = fn(&[&str]) -> Result<String, String>;
 
 /// The header of each kind of file, and the call for its rows.
-const FILES: [(&str, Call); 2] = [("kind\toctets\tcopies\troom\tanswer", write), ("input\treports", listen)];
+const FILES: [(&str, Call); 5] = [
+    ("kind\toctets\tcopies\troom\tanswer", write),
+    ("input\treports", listen),
+    ("octets\ttag\tanswer", find),
+    ("octets\tplace\tanswer", part),
+    ("octets\tanswer", read),
+];
 
 /// A byte that is no bit, at each place another: what the writer must not touch.
 fn untouched(room: usize) -> Vec<u8> {
@@ -73,6 +79,34 @@ fn same_in_pieces(bits: &[u8], heard: &[(Report, Listener)], sizes: &[usize]) ->
     }
     let record = listener.clone();
     listener.hear_many(&[]) == (0, Report::Nothing) && listener == record
+}
+
+fn find(row: &[&str]) -> Result<String, String> {
+    Ok(match tailsprig::find(&text::octets(row[0])?, text::number(row[1])?) {
+        Ok(Some(place)) => format!("at {place}"),
+        Ok(None) => "nothing".to_string(),
+        Err(refusal) => text::show_refusal(refusal),
+    })
+}
+
+fn part(row: &[&str]) -> Result<String, String> {
+    Ok(text::show_octets(tailsprig::part(&text::octets(row[0])?, text::number(row[1])?)))
+}
+
+fn read(row: &[&str]) -> Result<String, String> {
+    Ok(match tailsprig::read(&text::octets(row[0])?) {
+        Ok(offer) => {
+            let access = if offer.access { offer.access_options.to_string() } else { "-".to_string() };
+            format!(
+                "function {} items {:04X} pcm {} lapm {} access {access}",
+                offer.function,
+                offer.items,
+                offer.pcm,
+                u8::from(offer.lapm)
+            )
+        }
+        Err(refusal) => text::show_refusal(refusal),
+    })
 }
 
 /// The rows of a file, how many differ, and whether every line could be read.

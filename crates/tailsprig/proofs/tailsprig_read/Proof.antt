@@ -1,0 +1,44 @@
+use mathlib.Core.Path.{refl, sym, ap, _∙_}
+use Rattle.menus.specs.Offer.{saysRead}
+use Rattle.tailsprig.proofs.Codes.{read-answer}
+use borrow.Author.Needs.{needs}
+use Rattle.tailsprig.proofs.tailsprig_read.Statement.{statement}
+use Rattle.tailsprig.proofs.tailsprig_read.Tie as tie
+
+read-requires : tie.Need-read-requires
+read-requires c κs = search needs
+
+enum-known-menu : tie.Need-enum-known-menu
+enum-known-menu c = search needs
+
+enum-known-menu-2 : tie.Need-enum-known-menu-2
+enum-known-menu-2 c = search needs
+
+no-offer-requires : tie.Need-no-offer-requires
+no-offer-requires c κs = search needs
+
+refused-requires : tie.Need-refused-requires
+refused-requires c κs = search needs
+
+returns : tie.Need-returns
+returns c =
+    let e = ap saysRead (sym (c .before .menu .given .1)) ∙ c .before .before .before .read .ensures in
+    rw (sym e) (record { answer = refl; offer = refl })
+
+returns-2 : tie.Need-returns-2
+returns-2 c =
+    let m = c .before .before .before in
+    let e = ap saysRead (sym (m .menu2 .given .1)) ∙ m .before .before .read .ensures in
+    rw (sym e) (record { answer = read-answer (c .refused .result) (c .refused .ok) ∙ c .refused .ensures; offer = c .before .no-offer .ensures })
+
+pub tailsprig-read-spec : {M : Type 1} → statement M
+tailsprig-read-spec =
+    tie.close
+    (tie.spec
+    read-requires
+    enum-known-menu
+    enum-known-menu-2
+    no-offer-requires
+    refused-requires
+    returns
+    returns-2)
