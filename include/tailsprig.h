@@ -194,6 +194,22 @@ struct tailsprig_menu_read {
 /* Reads a menu. */
 struct tailsprig_menu_read tailsprig_read(const uint8_t *octets, size_t octets_len);
 
+/* What tailsprig_choice adds to PCM options: no item is as high. */
+#define TAILSPRIG_PCM 16
+
+/*
+ * What both ends go on with, from the menu that was sent (CM) and the one that answered it (JM):
+ *    0         nothing is shared: the call is cleared
+ *    1 to 12   an item: 1 V.34 duplex, 2 V.34 half duplex, 3 V.32 bis, 4 V.22 bis, 5 V.17, 6 V.29 half duplex, 7 V.27 ter,
+ *              8 V.26 ter, 9 V.26 bis, 10 V.23 duplex, 11 V.23 half duplex, 12 V.21
+ *   17 to 23   TAILSPRIG_PCM + the options of JM that pair with those of CM: 1 JM analogue with CM digital, 2 JM digital
+ *              with CM analogue, 4 V.91 with V.91
+ *
+ * Refusals, in this order: 4, 5 and 3 of CM, the same of JM, then
+ *   11  the functions differ, JM's lowest item is not in CM, or no PCM option pairs
+ */
+int32_t tailsprig_choice(const uint8_t *cm, size_t cm_len, const uint8_t *jm, size_t jm_len);
+
 #ifdef __cplusplus
 }
 #endif

@@ -72,6 +72,7 @@ pub mod c {
         pub fn tailsprig_find(octets: *const u8, octets_len: usize, tag: u8) -> i32;
         pub fn tailsprig_part(octets: *const u8, octets_len: usize, place: usize) -> usize;
         pub fn tailsprig_read(octets: *const u8, octets_len: usize) -> MenuRead;
+        pub fn tailsprig_choice(cm: *const u8, cm_len: usize, jm: *const u8, jm_len: usize) -> i32;
     }
 }
 
@@ -187,4 +188,24 @@ pub fn read(octets: &[u8]) -> Result<c::Offer, Refusal> {
     // SAFETY: as for `find`.
     let menu = unsafe { c::tailsprig_read(octets.as_ptr(), octets.len()) };
     count(menu.code).map(|_| menu.offer)
+}
+
+/// What both ends go on with.
+#[derive(Clone, Copy, Debug, PartialEq, Eq)]
+pub enum Choice {
+    Nothing,
+    Item(u8),
+    /// The options that pair, b5 lowest.
+    Pcm(u8),
+}
+
+/// The choice from CM and JM.
+pub fn choice(cm: &[u8], jm: &[u8]) -> Result<Choice, Refusal> {
+    // SAFETY: both slices are lent for the call alone, with their lengths.
+    let code = count(unsafe { c::tailsprig_choice(cm.as_ptr(), cm.len(), jm.as_ptr(), jm.len()) })? as u8;
+    Ok(match code {
+        0 => Choice::Nothing,
+        1..=12 => Choice::Item(code),
+        _ => Choice::Pcm(code - 16),
+    })
 }

@@ -3,11 +3,15 @@
 use lib.Dec.{T}
 use Rattle.laws.specs.Choice.{choose, both, either}
 use Rattle.laws.specs.Tests.{every, sameList}
-use Rattle.octets.specs.Lists.{firstFault}
+use Rattle.octets.specs.Lists.{firstFault, untilCategory}
 use Rattle.sequences.specs.Line.{framed, framedAll, sequence, copies}
 use Rattle.sequences.specs.Writing.{put}
+use Rattle.menus.specs.Items.{places, placeOf, hasItem, setOf}
+use Rattle.menus.specs.Groups.{firstGroup, frontPart, groupOf}
+use Rattle.menus.specs.Offer.{menuRead}
+use Rattle.offers.specs.Choosing.{inSet, paired, lowestFrom, pcmChoice, itemChoice, chosenFrom}
 use Rattle.demands.specs.Worked.{holds, worked}
 
 pub worked-values-hold : T (every holds worked)
-unfolding choose both either every sameList firstFault framed framedAll sequence copies put
+unfolding choose both either every sameList firstFault untilCategory framed framedAll sequence copies put places placeOf hasItem setOf firstGroup frontPart groupOf menuRead inSet paired lowestFrom pcmChoice itemChoice chosenFrom
 worked-values-hold = tt

@@ -7,6 +7,7 @@ use menus::Menu;
 use menus::Offer;
 use octets::Kind;
 use octets::Refusal;
+use offers::Choice;
 use sequences::Wrote;
 ghost use mathlib.Core.Path.{_≡_};
 ghost use lib.IntN.{pos, negℤ};
@@ -19,6 +20,8 @@ ghost use Rattle.menus.specs.Groups.{looked, partAt};
 ghost use Rattle.menus.specs.Groups as groups;
 ghost use Rattle.menus.specs.Offer.{menuRead};
 ghost use Rattle.octets.specs.Refusals.{number};
+ghost use Rattle.offers.specs.Choosing.{saysChoice, choiceOf};
+ghost use Rattle.tailsprig.specs.Choosing.{choiceCode};
 ghost use Rattle.tailsprig.specs.Reading.{lookedCode, SmallLooked, noOffer, ReadsAs};
 ghost use Rattle.sequences.specs.Writing.{says, writtenCj};
 ghost use Rattle.tailsprig.specs.Hearing.{toldCode, lightOf, heavyOf, HearsAs, RunsAs};
@@ -265,4 +268,23 @@ pub extern "C" fn tailsprig_read(octets: &[u8]) -> MenuRead
             code: refused(r),
         },
     }
+}
+
+fn choice_code(choice: Choice) -> i32
+    ensures { λ n. ⌜ n ≡ choiceCode (saysChoice choice) ⌝ }
+{
+    match choice {
+        Choice::Nothing => 0,
+        Choice::Mode(item) => item.0 as i32,
+        Choice::Pcm(options) => (16 + options as u16) as i32,
+        Choice::Refused(r) => refused(r),
+    }
+}
+
+// What both ends go on with, from the two menus.
+#[no_mangle]
+pub extern "C" fn tailsprig_choice(cm: &[u8], jm: &[u8]) -> i32
+    ensures { λ r. ⌜ r ≡ choiceCode (choiceOf (now (cm .entry)) (now (jm .entry))) ⌝ }
+{
+    choice_code(offers::choice_of(cm, jm))
 }

@@ -2,18 +2,19 @@
 //! row's last column. Prints a line for each difference and a last line with the counts; exits with 1 on a difference and
 //! with 2 where a file cannot be read as vectors. A file's header line says what its rows are.
 use std::{env, fs, process::ExitCode};
-use tailsprig::{text, Listener, Report};
+use tailsprig::{text, Choice, Listener, Report};
 
 /// What a row's call gives, in the text of its last column.
 type Call = fn(&[&str]) -> Result<String, String>;
 
 /// The header of each kind of file, and the call for its rows.
-const FILES: [(&str, Call); 5] = [
+const FILES: [(&str, Call); 6] = [
     ("kind\toctets\tcopies\troom\tanswer", write),
     ("input\treports", listen),
     ("octets\ttag\tanswer", find),
     ("octets\tplace\tanswer", part),
     ("octets\tanswer", read),
+    ("cm\tjm\tanswer", choice),
 ];
 
 /// A byte that is no bit, at each place another: what the writer must not touch.
@@ -105,6 +106,15 @@ fn read(row: &[&str]) -> Result<String, String> {
                 u8::from(offer.lapm)
             )
         }
+        Err(refusal) => text::show_refusal(refusal),
+    })
+}
+
+fn choice(row: &[&str]) -> Result<String, String> {
+    Ok(match tailsprig::choice(&text::octets(row[0])?, &text::octets(row[1])?) {
+        Ok(Choice::Nothing) => "none".to_string(),
+        Ok(Choice::Item(item)) => format!("item {item}"),
+        Ok(Choice::Pcm(options)) => format!("pcm {options}"),
         Err(refusal) => text::show_refusal(refusal),
     })
 }

@@ -1,0 +1,71 @@
+-- Whatever two menus offer, the choice from them is shared: never item 0, never PCM like with like.
+-- Assumes nothing.
+use Prim.Native.Nat.{ℕ, zero, suc, _<_, _+_, _*_}
+use native.Mathlib.Omega.{arith}
+use mathlib.Core.Path.{_≡_, refl}
+use mathlib.Core.Bool.{Bool, true}
+use borrow.Author.Tests.{ltb-true, eqb-true, eqb-false}
+use lib.Dec.{eqb}
+use Rattle.laws.proofs.Chosen.{chosen, both-true}
+use Rattle.menus.specs.declared.Offer.{Offer}
+use Rattle.offers.specs.Choosing.{inSet, b5, b6, b7, paired, lowest, lowestFrom, pcmChoice, itemChoice, chosenFrom}
+use Rattle.demands.specs.Shared.{Shared}
+
+-- the lowest item, where there is one, is in the set and below the end of what was looked at
+lowest-in : (items i n : ℕ) → 0 < lowestFrom items i n → (inSet items (lowestFrom items i n) ≡ true) × (lowestFrom items i n < i + n)
+unfolding lowestFrom
+lowest-in items i zero = λ h. absurd (omega (arith, h))
+lowest-in items i (suc n) =
+    chosen (λ (r : ℕ). 0 < r → (inSet items r ≡ true) × (r < i + suc n)) (inSet items i) i (lowestFrom items (i + 1) n)
+    (λ t h. (t, omega arith))
+    (λ t h. let rest = lowest-in items (i + 1) n h in (rest .0, omega (arith, rest .1)))
+
+-- three bits are found again in the number that they make
+both-small : (a b : ℕ) → a < 2 → b < 2 → a * b < 2
+both-small zero b h k = omega arith
+both-small (suc zero) b h k = omega (arith, k)
+both-small (suc (suc a)) b h k = absurd (omega (arith, h))
+
+parts : (x y z : ℕ) → x < 2 → y < 2 → z < 2 → (b5 (x + 2 * y + 4 * z) ≡ x) × (b6 (x + 2 * y + 4 * z) ≡ y) × (b7 (x + 2 * y + 4 * z) ≡ z)
+parts x y z p q r = (omega (arith, p, q, r), omega (arith, p, q, r), omega (arith, p, q, r))
+
+-- the bits of the options that pair
+crosswise : (cm jm : ℕ) → (b5 (paired cm jm) ≡ b5 jm * b6 cm) × (b6 (paired cm jm) ≡ b6 jm * b5 cm) × (b7 (paired cm jm) ≡ b7 jm * b7 cm)
+unfolding paired
+crosswise cm jm =
+    parts (b5 jm * b6 cm) (b6 jm * b5 cm) (b7 jm * b7 cm)
+    (both-small (b5 jm) (b6 cm) (omega arith) (omega arith))
+    (both-small (b6 jm) (b5 cm) (omega arith) (omega arith))
+    (both-small (b7 jm) (b7 cm) (omega arith) (omega arith))
+
+module _ (cm jm : Offer) where
+  abbrev same : Bool
+  same = eqb (cm .function) (jm .function)
+
+  pcm-shared : Shared cm jm (pcmChoice same (paired (cm .pcm) (jm .pcm)))
+  unfolding pcmChoice
+  pcm-shared =
+      chosen (Shared cm jm) _ _ _
+      (λ t.
+      let tests = both-true _ _ t in
+      let bits = crosswise (cm .pcm) (jm .pcm) in
+      record { function = eqb-true _ _ (tests .0); some = ltb-true _ _ (tests .1); analogue = bits .0; digital = bits .1; v91 = bits .2 })
+      (λ _. refl)
+
+  item-shared : Shared cm jm (itemChoice same (cm .items) (lowest (jm .items)))
+  unfolding itemChoice
+  item-shared =
+      chosen (Shared cm jm) _ _ _
+      (λ _. tt)
+      (λ some.
+      let above : 0 < lowest (jm .items) = omega (arith, eqb-false (lowest (jm .items)) 0 some) in
+      let answered = lowest-in (jm .items) 1 12 above in
+      chosen (Shared cm jm) _ _ _
+      (λ t.
+      let tests = both-true _ _ t in
+      record { function = eqb-true _ _ (tests .0); low = above; high = answered .1; asked = tests .1; answered = answered .0 })
+      (λ _. refl))
+
+  pub choice-shared : Shared cm jm (chosenFrom cm jm)
+  unfolding chosenFrom
+  choice-shared = chosen (Shared cm jm) _ _ _ (λ _. pcm-shared) (λ _. item-shared)

@@ -1,0 +1,44 @@
+-- The modes of a function, and one function of the test over all.
+-- Assumes nothing.
+use Prim.Native.Nat.{ℕ, zero, suc, _<_, _≤_, _+_, _-_}
+use native.Mathlib.Numerals.{add-one}
+use native.Mathlib.Omega.{arith}
+use mathlib.Core.Path.{_≡_, sym}
+use mathlib.Core.Bool.{true, false}
+use mathlib.Core.List.{List}
+use lib.ListN.{length, drop, getD, List·getD-eq-default}
+use lib.Seq.{drop-cons}
+use Rattle.laws.specs.Choice.{choose, either}
+use Rattle.records.specs.declared.Modes.{Modes}
+use Rattle.records.specs.declared.Record.{Record}
+use Rattle.records.specs.Record.{noModes, whereAvailable, modesAt, inUse, badModes, anyBad, badRecord}
+
+-- a function from 1 up stands one before its number
+pub modes-at : (functions : List Modes) (n : ℕ) → 1 ≤ n → modesAt functions n ≡ whereAvailable (getD functions (n - 1) noModes)
+unfolding modesAt
+modes-at functions zero h = absurd (omega (arith, h))
+modes-at functions (suc n) h = let before : suc n - 1 ≡ n = omega arith in simp before
+
+-- a number past the functions has no modes
+pub modes-past : (functions : List Modes) (n : ℕ) → length functions < n → modesAt functions n ≡ noModes
+unfolding choose
+modes-past functions n h = simp (modes-at functions n (omega (arith, h)), List·getD-eq-default functions noModes {n = n - 1} (omega (arith, h)))
+
+module _ (functions : List Modes) (i : ℕ) (d : Modes) (h : i < length functions) where
+  pub bad-here : badModes (getD functions i d) ≡ true → anyBad (drop i functions) ≡ true
+  unfolding either anyBad
+  bad-here t = simp (drop-cons functions i d h, t)
+
+  pub bad-on : badModes (getD functions i d) ≡ false → anyBad (drop i functions) ≡ anyBad (drop (i + 1) functions)
+  unfolding either anyBad
+  bad-on t = simp (drop-cons functions i d h, t, add-one)
+
+-- the test of the home function decides, or leaves it to all functions
+module _ (rec : Record) (home : Modes) (same : home ≡ inUse rec (rec .home)) where
+  pub home-there : home .available ≡ true → badRecord rec ≡ anyBad (rec .functions)
+  unfolding choose badRecord
+  home-there t = simp (sym same, t)
+
+  pub home-missing : home .available ≡ false → badRecord rec ≡ true
+  unfolding choose badRecord
+  home-missing t = simp (sym same, t)

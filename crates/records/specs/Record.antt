@@ -1,0 +1,47 @@
+-- Document 01, 'Menus we make': the record of an end.
+use Prim.Native.Nat.{ℕ, zero, suc, _/_, _%_}
+use mathlib.Core.Bool.{Bool, true, false}
+use mathlib.Core.List.{List, [], _∷_}
+use lib.Dec.{leb, ltb, eqb}
+use lib.ListN.{getD}
+use Rattle.laws.specs.Choice.{choose, either}
+use Rattle.records.specs.declared.Modes.{Modes}
+use Rattle.records.specs.declared.Record.{Record}
+
+-- "no modes and no PCM"
+abbrev pub noModes : Modes
+noModes = record { available = false; pcm = 0; items = 0 }
+
+-- "one not available has no modes and no PCM, even where they are filled in"
+abbrev pub whereAvailable : Modes → Modes
+whereAvailable modes = choose (modes .available) modes noModes
+
+-- functions are counted from 1; a number that is no function has no modes
+unfoldable pub modesAt : List Modes → ℕ → Modes
+modesAt functions zero = noModes
+modesAt functions (suc n) = whereAvailable (getD functions n noModes)
+
+-- what a function offers in a menu: the one set in use
+abbrev pub inUse : Record → ℕ → Modes
+inUse rec function = modesAt (rec .functions) function
+
+-- "a set holds anything outside 1 to 12"
+abbrev pub outside : ℕ → Bool
+outside items = either (eqb (items % 2) 1) (leb 8192 items)
+
+-- "PCM b5 or b6 is set without item 1 in the same function"
+abbrev pub lacksItem1 : ℕ → ℕ → Bool
+lacksItem1 pcm items = choose (eqb (pcm % 4) 0) false (eqb (items / 2 % 2) 0)
+
+-- one function's share of what makes a record bad
+abbrev pub badModes : Modes → Bool
+badModes modes = either (outside (modes .items)) (either (ltb 7 (modes .pcm)) (lacksItem1 (modes .pcm) (modes .items)))
+
+-- "All six functions are tested"
+unfoldable pub anyBad : List Modes → Bool
+anyBad [] = false
+anyBad (modes ∷ rest) = either (badModes modes) (anyBad rest)
+
+-- "It is bad (10) if the home function isn't an available one, .."
+unfoldable pub badRecord : Record → Bool
+badRecord rec = choose (inUse rec (rec .home) .available) (anyBad (rec .functions)) true
