@@ -33,7 +33,7 @@ enum tailsprig_refusal {
     TAILSPRIG_AFTER_OVER = 7,       /* an event after the session was over */
     TAILSPRIG_CLOCK = 8,            /* the clock ran backwards, or half its range has passed */
     TAILSPRIG_WRONG_EVENT = 9,      /* an event of the other end, or a value outside its range */
-    TAILSPRIG_BAD_RECORD = 10,      /* a record, or a number that stands for a choice, outside its range */
+    TAILSPRIG_BAD_RECORD = 10,      /* a record or a kind outside its range */
     TAILSPRIG_NOT_OFFERED = 11,     /* the choice was not offered */
     TAILSPRIG_WRONG_CATEGORY = 12,  /* in writing: tag 0, or another category in CI */
     TAILSPRIG_CUT_SHORT = 13        /* a sequence cut short */

@@ -8,7 +8,7 @@ use borrow.Author.Tests.{ltb-true, eqb-true, eqb-false}
 use lib.Dec.{eqb}
 use Rattle.laws.proofs.Chosen.{chosen, both-true}
 use Rattle.menus.specs.declared.Offer.{Offer}
-use Rattle.offers.specs.Choosing.{inSet, b5, b6, b7, paired, lowest, lowestFrom, pcmChoice, itemChoice, chosenFrom}
+use Rattle.offers.specs.Choosing.{inSet, analogue, digital, v91, paired, lowest, lowestFrom, pcmChoice, itemChoice, chosenFrom}
 use Rattle.demands.specs.Shared.{Shared}
 
 -- the lowest item, where there is one, is in the set and below the end of what was looked at
@@ -26,17 +26,17 @@ both-small zero b h k = omega arith
 both-small (suc zero) b h k = omega (arith, k)
 both-small (suc (suc a)) b h k = absurd (omega (arith, h))
 
-parts : (x y z : ℕ) → x < 2 → y < 2 → z < 2 → (b5 (x + 2 * y + 4 * z) ≡ x) × (b6 (x + 2 * y + 4 * z) ≡ y) × (b7 (x + 2 * y + 4 * z) ≡ z)
+parts : (x y z : ℕ) → x < 2 → y < 2 → z < 2 → (analogue (x + 2 * y + 4 * z) ≡ x) × (digital (x + 2 * y + 4 * z) ≡ y) × (v91 (x + 2 * y + 4 * z) ≡ z)
 parts x y z p q r = (omega (arith, p, q, r), omega (arith, p, q, r), omega (arith, p, q, r))
 
 -- the bits of the options that pair
-crosswise : (cm jm : ℕ) → (b5 (paired cm jm) ≡ b5 jm * b6 cm) × (b6 (paired cm jm) ≡ b6 jm * b5 cm) × (b7 (paired cm jm) ≡ b7 jm * b7 cm)
+crosswise : (cm jm : ℕ) → (analogue (paired cm jm) ≡ analogue jm * digital cm) × (digital (paired cm jm) ≡ digital jm * analogue cm) × (v91 (paired cm jm) ≡ v91 jm * v91 cm)
 unfolding paired
 crosswise cm jm =
-    parts (b5 jm * b6 cm) (b6 jm * b5 cm) (b7 jm * b7 cm)
-    (both-small (b5 jm) (b6 cm) (omega arith) (omega arith))
-    (both-small (b6 jm) (b5 cm) (omega arith) (omega arith))
-    (both-small (b7 jm) (b7 cm) (omega arith) (omega arith))
+    parts (analogue jm * digital cm) (digital jm * analogue cm) (v91 jm * v91 cm)
+    (both-small (analogue jm) (digital cm) (omega arith) (omega arith))
+    (both-small (digital jm) (analogue cm) (omega arith) (omega arith))
+    (both-small (v91 jm) (v91 cm) (omega arith) (omega arith))
 
 module _ (cm jm : Offer) where
   abbrev same : Bool
@@ -49,7 +49,7 @@ module _ (cm jm : Offer) where
       (λ t.
       let tests = both-true _ _ t in
       let bits = crosswise (cm .pcm) (jm .pcm) in
-      record { function = eqb-true _ _ (tests .0); some = ltb-true _ _ (tests .1); analogue = bits .0; digital = bits .1; v91 = bits .2 })
+      record { function = eqb-true _ _ (tests .0); some = ltb-true _ _ (tests .1); b5 = bits .0; b6 = bits .1; b7 = bits .2 })
       (λ _. refl)
 
   item-shared : Shared cm jm (itemChoice same (cm .items) (lowest (jm .items)))

@@ -5,7 +5,7 @@ use mathlib.Core.Bool.{true}
 use Rattle.octets.specs.declared.Refusal.the-variants.{NotOffered}
 use Rattle.octets.specs.Refusals.{number}
 use Rattle.menus.specs.declared.Offer.{Offer}
-use Rattle.offers.specs.Choosing.{Chosen, none, item, pcm, refusal, inSet, b5, b6, b7}
+use Rattle.offers.specs.Choosing.{Chosen, none, item, pcm, refusal, inSet, analogue, digital, v91}
 
 -- never "Item 0 chosen as the best mode": an item from 1 to 12 that both menus have for the same function
 pub record SharedItem (cm jm : Offer) (i : ℕ) : Type 0 where
@@ -19,9 +19,9 @@ pub record SharedItem (cm jm : Offer) (i : ℕ) : Type 0 where
 pub record SharedPcm (cm jm : Offer) (options : ℕ) : Type 0 where
   pub function : cm .function ≡ jm .function
   pub some : 0 < options
-  pub analogue : b5 options ≡ b5 (jm .pcm) * b6 (cm .pcm)
-  pub digital : b6 options ≡ b6 (jm .pcm) * b5 (cm .pcm)
-  pub v91 : b7 options ≡ b7 (jm .pcm) * b7 (cm .pcm)
+  pub b5 : analogue options ≡ analogue (jm .pcm) * digital (cm .pcm)
+  pub b6 : digital options ≡ digital (jm .pcm) * analogue (cm .pcm)
+  pub b7 : v91 options ≡ v91 (jm .pcm) * v91 (cm .pcm)
 
 abbrev pub Shared : Offer → Offer → Chosen → Type 0
 Shared cm jm none = Unit

@@ -150,6 +150,10 @@ pub heard-range : (rec : Listener) (bit : ℕ) → inRange rec ≡ true → inRa
 unfolding choose
 heard-range rec bit h = simp h (fits-range (heardIn rec bit .rec) (heard-in-fits rec bit (range-fits rec h)))
 
+pub heard-inside : (rec : Listener) (bit : ℕ) → inRange rec ≡ true → heard rec bit ≡ heardIn rec bit
+unfolding choose
+heard-inside rec bit h = simp h
+
 pub heard-outside : (rec : Listener) (bit : ℕ) → inRange rec ≡ false → heard rec bit ≡ refuses 10 rec
 unfolding choose
 heard-outside rec bit h = simp h

@@ -49,7 +49,8 @@ pub enum Heard {
     Refused(Refusal),
 }
 
-// The next place in the framing, and what is to be done.
+// The next place in the framing, numbered as docs/RANGES.md says, and what is to be done: 0 nothing, 1 a CI starts, 2 a menu starts,
+// 3 an octet is stored, 4 the message is reported, 5 CJ is told, 16 + n refusal n.
 pub struct Turned {
     pub place: u32,
     pub act: u32,

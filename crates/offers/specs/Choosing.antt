@@ -1,5 +1,5 @@
 -- Document 01, 'Menus we make': the choice from CM and JM.
-use Prim.Native.Nat.{ℕ, zero, suc, _+_, _*_, _/_, _%_, _^_}
+use Prim.Native.Nat.{ℕ, zero, suc, _+_, _*_, _/_, _%_}
 use mathlib.Core.Bool.{Bool}
 use mathlib.Core.List.{List}
 use lib.Dec.{ltb, eqb}
@@ -7,6 +7,7 @@ use Rattle.laws.specs.Choice.{choose, both}
 use Rattle.octets.specs.declared.Refusal.the-variants.{NotOffered}
 use Rattle.octets.specs.Refusals.{number}
 use Rattle.menus.specs.declared.Offer.{Offer}
+use Rattle.menus.specs.Items.{bitOf}
 use Rattle.menus.specs.Offer.{Read, menuRead}
 use Rattle.menus.specs.Offer as read
 use Rattle.offers.specs.declared.Choice.{Choice}
@@ -26,23 +27,23 @@ saysChoice (Mode i) = item (i .0)
 saysChoice (Pcm options) = pcm options
 saysChoice (Refused r) = refusal (number r)
 
--- the item is in the set
+-- the item is in the set: bit i for item i
 unfoldable pub inSet : ℕ → ℕ → Bool
-inSet items i = eqb (items / 2 ^ i % 2) 1
+inSet items i = eqb (bitOf i items) 1
 
--- b5, b6 and b7 of options: analogue, digital, V.91
-abbrev pub b5 : ℕ → ℕ
-b5 options = options % 2
+-- the options of a PCM group: "b5 analogue, b6 digital, b7 V.91", b5 lowest
+abbrev pub analogue : ℕ → ℕ
+analogue options = options % 2
 
-abbrev pub b6 : ℕ → ℕ
-b6 options = options / 2 % 2
+abbrev pub digital : ℕ → ℕ
+digital options = options / 2 % 2
 
-abbrev pub b7 : ℕ → ℕ
-b7 options = options / 4 % 2
+abbrev pub v91 : ℕ → ℕ
+v91 options = options / 4 % 2
 
 -- "the JM options that pair with CM (b5 with b6, b6 with b5, b7 with b7)"; a product of bits is 1 where both are
 unfoldable pub paired : ℕ → ℕ → ℕ
-paired cm jm = b5 jm * b6 cm + 2 * (b6 jm * b5 cm) + 4 * (b7 jm * b7 cm)
+paired cm jm = analogue jm * digital cm + 2 * (digital jm * analogue cm) + 4 * (v91 jm * v91 cm)
 
 -- the lowest of n items from i on; 0 where there is none, since item 0 is not looked at
 unfoldable pub lowestFrom : ℕ → ℕ → ℕ → ℕ

@@ -29,7 +29,7 @@ inUse rec function = modesAt (rec .functions) function
 abbrev pub outside : ℕ → Bool
 outside items = either (eqb (items % 2) 1) (leb 8192 items)
 
--- "PCM b5 or b6 is set without item 1 in the same function"
+-- "PCM b5 or b6 is set without item 1 in the same function"; b5 and b6 are the two lowest bits of the options
 abbrev pub lacksItem1 : ℕ → ℕ → Bool
 lacksItem1 pcm items = choose (eqb (pcm % 4) 0) false (eqb (items / 2 % 2) 0)
 
