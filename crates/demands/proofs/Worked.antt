@@ -5,7 +5,7 @@ use Rattle.laws.specs.Choice.{choose, both, either}
 use Rattle.laws.specs.Tests.{every, sameList}
 use Rattle.octets.specs.Lists.{firstFault, untilCategory}
 use Rattle.sequences.specs.Line.{framed, framedAll, sequence, copies}
-use Rattle.sequences.specs.Writing.{put}
+use Rattle.octets.specs.Lent.{put}
 use Rattle.menus.specs.Items.{places, placeOf, hasItem, setOf}
 use Rattle.menus.specs.Groups.{firstGroup, frontPart, groupOf}
 use Rattle.menus.specs.Offer.{menuRead}

@@ -8,7 +8,8 @@ use Rattle.laws.specs.Tests.{sameList}
 use Rattle.octets.specs.declared.Kind.{Kind}
 use Rattle.octets.specs.declared.Kind.the-variants.{Ci, Menu}
 use Rattle.sequences.specs.Line.{sequence}
-use Rattle.sequences.specs.Writing.{Said, bits, refusal, written}
+use Rattle.octets.specs.Lent.{Said, count, refusal}
+use Rattle.sequences.specs.Writing.{written}
 use Rattle.offers.specs.Choosing.{Chosen, none, item, pcm, choiceOf}
 use Rattle.offers.specs.Choosing as choosing
 
@@ -22,9 +23,9 @@ pub data Case : Type 0 where
   chooses : List ℕ → List ℕ → Chosen → Case
 
 abbrev sameSaid : Said → Said → Bool
-sameSaid (bits m) (bits n) = eqb m n
-sameSaid (bits m) (refusal n) = false
-sameSaid (refusal m) (bits n) = false
+sameSaid (count m) (count n) = eqb m n
+sameSaid (count m) (refusal n) = false
+sameSaid (refusal m) (count n) = false
 sameSaid (refusal m) (refusal n) = eqb m n
 
 -- a choice as one number
@@ -47,7 +48,7 @@ cmOfA = 0xC1 ∷ 0x45 ∷ 0x13 ∷ 0x90 ∷ 0x2A ∷ []
 abbrev pub worked : List Case
 worked =
     -- "CM of A is C1 45 13 90 2A, 70 bits."
-    writes Menu cmOfA 1 100 (bits 70)
+    writes Menu cmOfA 1 100 (count 70)
     -- "answerer with items 3, 4, 8, no LAPM: JM C1 05 13 10, choice item 3."
     ∷ chooses cmOfA (0xC1 ∷ 0x05 ∷ 0x13 ∷ 0x10 ∷ []) (item 3)
     -- "answerer with item 5 only: C1 05 10 10, choice none."
@@ -57,9 +58,9 @@ worked =
     -- "CI for data: 1111111111 0000000001 0100000111."
     ∷ stands Ci (0xC1 ∷ []) (1 ∷ 1 ∷ 1 ∷ 1 ∷ 1 ∷ 1 ∷ 1 ∷ 1 ∷ 1 ∷ 1 ∷ 0 ∷ 0 ∷ 0 ∷ 0 ∷ 0 ∷ 0 ∷ 0 ∷ 0 ∷ 0 ∷ 1 ∷ 0 ∷ 1 ∷ 0 ∷ 0 ∷ 0 ∷ 0 ∷ 0 ∷ 1 ∷ 1 ∷ 1 ∷ [])
     -- "64 octets accepted, 65 refused with 4."
-    ∷ writes Menu (0xC1 ∷ replicate 63 0x10) 1 660 (bits 660)
+    ∷ writes Menu (0xC1 ∷ replicate 63 0x10) 1 660 (count 660)
     ∷ writes Menu (0xC1 ∷ replicate 64 0x10) 1 670 (refusal 4)
     -- "buffer of 69 bytes for one copy of A's CM: 6; 70 is enough."
     ∷ writes Menu cmOfA 1 69 (refusal 6)
-    ∷ writes Menu cmOfA 1 70 (bits 70)
+    ∷ writes Menu cmOfA 1 70 (count 70)
     ∷ []

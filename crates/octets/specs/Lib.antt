@@ -1,3 +1,4 @@
 pub mod Refusals
 pub mod Octets
 pub mod Lists
+pub mod Lent

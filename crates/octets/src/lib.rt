@@ -41,6 +41,12 @@ pub enum Verdict {
     Refused(Refusal),
 }
 
+// What a call that writes into a lent buffer answers: how many were written, bits or octets, or why nothing was.
+pub enum Wrote {
+    Count(usize),
+    Refused(Refusal),
+}
+
 // The number that document 01 gives a refusal.
 pub fn refusal_number(r: Refusal) -> u8
     ensures { λ n. ⌜ n ≡ number r ⌝ }

@@ -3,20 +3,16 @@ use octets::Kind;
 use octets::Purpose;
 use octets::Refusal;
 use octets::Verdict;
+use octets::Wrote;
 ghost use mathlib.Core.Path.{_≡_};
 ghost use Prim.Native.Nat.{suc, _+_, _*_, _<_, _≤_};
 ghost use lib.ListN.{length, take, drop, getD};
 ghost use Rattle.laws.specs.Front.{front};
 ghost use Rattle.octets.specs.Lists.{untilCategory};
+ghost use Rattle.octets.specs.Lent.{Meets};
 ghost use Rattle.sequences.specs.Line.{framedAll, sequence, copies};
 ghost use Rattle.sequences.specs.Tens.{spreads, tenBits, syncTen, octetTen};
-ghost use Rattle.sequences.specs.Writing.{written, writtenCj, Meets, Grouped};
-
-// What a call of the writer answers: the number of bits written, or why nothing was.
-pub enum Wrote {
-    Bits(usize),
-    Refused(Refusal),
-}
+ghost use Rattle.sequences.specs.Writing.{written, writtenCj, Grouped};
 
 // Four bits, a byte for each, the lowest first: 64 bytes of constants, with which the writer stores four bits at a time.
 const SPREAD: [u32; 16] = [
@@ -146,7 +142,7 @@ pub fn write(kind: Kind, octets: &[u8], n: u16, out: &mut [u8]) -> Wrote
             }
             let spread = SPREAD;
             write_copies(out, kind, octets, n, &spread);
-            Wrote::Bits(size)
+            Wrote::Count(size)
         }
     }
 }
@@ -161,5 +157,5 @@ pub fn write_cj(out: &mut [u8]) -> Wrote
     let spread = SPREAD;
     let zeros = [0u8; 3];
     write_groups(out, &zeros, &spread);
-    Wrote::Bits(30)
+    Wrote::Count(30)
 }

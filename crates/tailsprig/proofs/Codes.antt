@@ -17,9 +17,10 @@ use Rattle.octets.specs.declared.Kind.{Kind}
 use Rattle.octets.specs.declared.Purpose.the-variants.{Writing}
 use Rattle.octets.specs.Lists.{before, listFault}
 use Rattle.octets.proofs.Lists.{accepted-short}
-use Rattle.sequences.specs.declared.Wrote.{Wrote}
+use Rattle.octets.specs.declared.Wrote.{Wrote}
 use Rattle.sequences.specs.Line.{sequence, copies, cj}
-use Rattle.sequences.specs.Writing.{says, Outcome, roomFault, put, written, writtenCj, Meets}
+use Rattle.octets.specs.Lent.{says, Outcome, roomFault, put, Meets}
+use Rattle.sequences.specs.Writing.{written, writtenCj}
 use Rattle.sequences.proofs.Lines.{line-length, line-small, cj-length}
 use Rattle.tailsprig.specs.Codes.{code, Small, Returns}
 

@@ -8,16 +8,17 @@ use Rattle.laws.specs.Choice.{choose}
 use Rattle.octets.specs.declared.Kind.the-variants.{Ci, Menu}
 use Rattle.tailsprig.specs.declared.Asked.{Asked}
 use Rattle.tailsprig.specs.declared.Asked.the-variants.{Known, Unknown}
-use Rattle.sequences.specs.Writing.{Said, bits, refusal, Outcome, written}
+use Rattle.octets.specs.Lent.{Said, count, refusal, Outcome}
+use Rattle.sequences.specs.Writing.{written}
 
--- the bits written, or a refusal n as -n
+-- how many were written, or a refusal n as -n
 abbrev pub code : Said → ℤ
-code (bits n) = pos n
+code (count n) = pos n
 code (refusal n) = negℤ (pos n)
 
 -- what an i32 can hold
 abbrev pub Small : Said → Type 0
-Small (bits n) = n < 2 ^ 31
+Small (count n) = n < 2 ^ 31
 Small (refusal n) = Unit
 
 -- what is laid down for a call, as a C program gets it

@@ -7,8 +7,8 @@ use menus::Menu;
 use menus::Offer;
 use octets::Kind;
 use octets::Refusal;
+use octets::Wrote;
 use offers::Choice;
-use sequences::Wrote;
 ghost use mathlib.Core.Path.{_≡_};
 ghost use lib.IntN.{pos, negℤ};
 ghost use Rattle.listening.specs.Record.{fresh};
@@ -23,7 +23,8 @@ ghost use Rattle.octets.specs.Refusals.{number};
 ghost use Rattle.offers.specs.Choosing.{saysChoice, choiceOf};
 ghost use Rattle.tailsprig.specs.Choosing.{choiceCode};
 ghost use Rattle.tailsprig.specs.Reading.{lookedCode, SmallLooked, noOffer, ReadsAs};
-ghost use Rattle.sequences.specs.Writing.{says, writtenCj};
+ghost use Rattle.octets.specs.Lent.{says};
+ghost use Rattle.sequences.specs.Writing.{writtenCj};
 ghost use Rattle.tailsprig.specs.Hearing.{toldCode, lightOf, heavyOf, HearsAs, RunsAs};
 ghost use Rattle.tailsprig.specs.Codes.{code, Small, Returns, kindOf, writtenAs};
 
@@ -38,7 +39,7 @@ fn wrote(w: Wrote) -> i32
     ensures { λ n. ⌜ n ≡ code (says w) ⌝ }
 {
     match w {
-        Wrote::Bits(n) => n as i32,
+        Wrote::Count(n) => n as i32,
         Wrote::Refused(r) => refused(r),
     }
 }

@@ -9,7 +9,7 @@ use Rattle.octets.specs.Lists.{listFault}
 use Rattle.octets.proofs.Lists.{accepted-short}
 use Rattle.sequences.specs.Line.{sequence, copies}
 use Rattle.sequences.proofs.Lines.{line-length, line-small}
-use Rattle.sequences.proofs.Outcomes.{meets-short, meets-put, meets-refused, meets-accepted}
+use Rattle.octets.proofs.Outcomes.{meets-short, meets-put, meets-refused, meets-accepted}
 use borrow.Author.Needs.{needs}
 use Rattle.sequences.proofs.write.Statement.{statement}
 use Rattle.sequences.proofs.write.Tie as tie
@@ -45,7 +45,7 @@ returns : tie.Need-returns
 returns c =
     let t = c .before in
     let a = t .before .before .before .before .before .args in
-    meets-accepted (a .kind) (now (a .octets)) (a .n) (now (a .out)) _ _ (accepted t)
+    meets-accepted (copies (a .n) (sequence (a .kind) (now (a .octets)))) (now (a .out)) _ _ _ _ (accepted t)
     (meets-short (copies (a .n) (sequence (a .kind) (now (a .octets)))) (now (a .out)) (omega (arith, line-length (a .kind) (now (a .octets)) (a .n), c .if1 .taken)))
 
 write-copies-requires : tie.Need-write-copies-requires
@@ -58,7 +58,7 @@ returns-2 : tie.Need-returns-2
 returns-2 c =
     let t = c .before .before .before in
     let a = t .before .before .before .args in
-    meets-refused (a .kind) (now (a .octets)) (a .n) (now (a .out)) _ (ap fault (sym (c .before .verdict .given .1)) ∙ t .test .ensures)
+    meets-refused (copies (a .n) (sequence (a .kind) (now (a .octets)))) (now (a .out)) _ _ _ (ap fault (sym (c .before .verdict .given .1)) ∙ t .test .ensures)
 
 same-length : tie.Need-same-length
 same-length c = search needs
@@ -69,7 +69,7 @@ returns-3 c =
     let t = w .before .before .before .before in
     let a = t .before .before .before .before .before .args in
     let line = line-length (a .kind) (now (a .octets)) (a .n) in
-    meets-accepted (a .kind) (now (a .octets)) (a .n) (now (a .out)) _ _ (accepted t)
+    meets-accepted (copies (a .n) (sequence (a .kind) (now (a .octets)))) (now (a .out)) _ _ _ _ (accepted t)
     (meets-put (copies (a .n) (sequence (a .kind) (now (a .octets)))) (now (a .out)) _ (w .write-copies .last .0) (omega (arith, line, w .before .before .before .if1 .left)) (sym line) (w .write-copies .ensures))
 
 pub write-spec : {M : Type 1} → statement M

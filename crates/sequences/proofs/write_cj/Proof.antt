@@ -3,7 +3,7 @@ use mathlib.Core.Path.{sym}
 use denote.Ref.{now}
 use Rattle.sequences.specs.Line.{cj}
 use Rattle.sequences.proofs.Lines.{cj-length}
-use Rattle.sequences.proofs.Outcomes.{meets-short, meets-put}
+use Rattle.octets.proofs.Outcomes.{meets-short, meets-put}
 use borrow.Author.Needs.{needs}
 use Rattle.sequences.proofs.write_cj.Statement.{statement}
 use Rattle.sequences.proofs.write_cj.Tie as tie
