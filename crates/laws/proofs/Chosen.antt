@@ -2,9 +2,9 @@
 -- Assumes nothing.
 use Prim.Native.Nat.{ℕ}
 use native.Mathlib.Omega.{arith}
-use mathlib.Core.Path.{_≡_, refl}
+use mathlib.Core.Path.{_≡_, refl, ap}
 use mathlib.Core.Bool.{Bool, true, false}
-use Rattle.laws.specs.Choice.{choose, both}
+use Rattle.laws.specs.Choice.{choose, both, either}
 
 -- what holds of both sides of a choice holds of the choice, where each side may use its test
 pub chosen : {A : Type 0} (P : A → Type 0) (t : Bool) (x y : A) → (t ≡ true → P x) → (t ≡ false → P y) → P (choose t x y)
@@ -22,3 +22,13 @@ unfolding both
 both-false true true h x y = absurd (let z : _≡_ {A = ℕ} 0 1 = cc in let w : ⊥ = omega arith in w)
 both-false true false h x y = absurd (let z : _≡_ {A = ℕ} 0 1 = cc in let w : ⊥ = omega arith in w)
 both-false false b h x y = absurd (let z : _≡_ {A = ℕ} 0 1 = cc in let w : ⊥ = omega arith in w)
+
+pub either-false : (a b : Bool) → either a b ≡ false → (a ≡ false) × (b ≡ false)
+unfolding either
+either-false true b h = let z : _≡_ {A = Bool} true false = cc in (cc, cc)
+either-false false b h = (refl, h)
+
+-- one test cannot hold and fail
+pub clash : {A : Type 0} → _≡_ {A = Bool} true false → A
+unfolding choose
+clash e = absurd (let z : _≡_ {A = ℕ} 1 0 = ap (λ (b : Bool). choose b 1 0) e in let w : ⊥ = omega arith in w)

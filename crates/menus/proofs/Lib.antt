@@ -2,3 +2,5 @@ pub mod Places
 pub mod Looking
 pub mod Reading
 pub mod Sets
+pub mod Bits
+pub mod Joined

@@ -1,18 +1,19 @@
 -- Laws about the places of items: the table that the code holds gives them, and what callers need of them.
 -- Assumes nothing.
-use Prim.Native.Nat.{ℕ, _<_, _≤_, _%_, _/_}
+use Prim.Native.Nat.{ℕ, _<_, _≤_, _+_, _*_, _%_, _/_}
 use mathlib.Core.Path.{_≡_, sym, ap, _∙_}
 use mathlib.Core.Bool.{Bool, false}
 use mathlib.Core.List.{List, [], _∷_}
 use borrow.Author.Tests.{ne-eqb}
+use native.Mathlib.Nat.{div-div-eq-div-mul}
 use native.Mathlib.Omega.{arith}
 use lib.Dec.{T, ltb, ltb→lt, eqb, eqb→eq}
 use lib.ListN.{length, getD, List·getD-eq-default}
-use Rattle.laws.specs.Choice.{both}
+use Rattle.laws.specs.Choice.{choose, both}
 use Rattle.laws.specs.Tests.{allBelow}
 use Rattle.laws.proofs.Computed.{below, both-left, both-right}
 use Rattle.menus.specs.declared.ItemPlace.{ItemPlace}
-use Rattle.menus.specs.Items.{places, placeOf, bitOf, hasItem}
+use Rattle.menus.specs.Items.{places, placeOf, bitOf, hasItem, setOf, itemsOf, itemBits, modulationOctet}
 
 -- the table of the code: 8 for each octet before it, and the bit
 abbrev pub table : List ℕ
@@ -49,3 +50,43 @@ pub item-past : (group : List ℕ) (i : ℕ) → i < 13 → length group ≤ pla
 unfolding hasItem
 item-past group i h past =
     ne-eqb (bitOf (placeOf i .bit .0) (getD group (placeOf i .octet) 0)) 1 (λ e. let z : bitOf (placeOf i .bit .0) (getD group (placeOf i .octet) 0) ≡ 0 = ap (λ (b : ℕ). bitOf (placeOf i .bit .0) b) (List·getD-eq-default group 0 past) ∙ zero-bit (placeOf i .bit .0) (place-bit i h) in omega (arith, e, z))
+
+-- the lowest bits of a number, where they are put together again
+two-bits : (n : ℕ) → n % 2 + n / 2 % 2 * 2 ≡ n % 4
+two-bits n = let quarter : n / 4 ≡ n / 2 / 2 = sym (div-div-eq-div-mul n 2 2) in omega (arith, quarter)
+
+three-bits : (n : ℕ) → n % 2 + n / 2 % 2 * 2 + n / 4 % 2 * 4 ≡ n % 8
+three-bits n =
+    let eighth : n / 8 ≡ n / 2 / 4 = sym (div-div-eq-div-mul n 2 4) in
+    let low : n % 2 + n / 2 % 4 * 2 ≡ n % 8 = omega (arith, eighth) in
+    let high : n / 2 % 2 + n / 4 % 2 * 2 ≡ n / 2 % 4 = ap (λ (k : ℕ). n / 2 % 2 + k % 2 * 2) (sym (div-div-eq-div-mul n 2 2)) ∙ two-bits (n / 2) in
+    omega (arith, low, high)
+
+-- b0, b1, b2, b6, b7 of an extension octet, from the five bits of a number
+five-bits : (n : ℕ) → n % 2 + n / 2 % 2 * 2 + n / 4 % 2 * 4 + n / 8 % 2 * 64 + n / 16 % 2 * 128 ≡ n % 8 + 64 * (n / 8 % 4)
+five-bits n =
+    let sixteenth : n / 16 ≡ n / 8 / 2 = sym (div-div-eq-div-mul n 8 2) in
+    let high : n / 8 % 2 + n / 16 % 2 * 2 ≡ n / 8 % 4 = ap (λ (k : ℕ). n / 8 % 2 + k % 2 * 2) sixteenth ∙ two-bits (n / 8) in
+    omega (arith, three-bits n, high)
+
+-- the octets of a set of items
+module _ (items : ℕ) where
+  pub octet-0 : modulationOctet items 0 ≡ 5 + 32 * (items % 8)
+  unfolding places placeOf itemBits modulationOctet choose
+  octet-0 = omega (arith, three-bits items)
+
+  pub octet-1 : modulationOctet items 1 ≡ 16 + items / 8 % 8 + 64 * (items / 8 / 8 % 4)
+  unfolding places placeOf itemBits modulationOctet choose
+  octet-1 = simp (sym (div-div-eq-div-mul items 8 2), sym (div-div-eq-div-mul items 8 4), sym (div-div-eq-div-mul items 8 8), sym (div-div-eq-div-mul items 8 16)) (omega (arith, five-bits (items / 8)))
+
+  pub octet-2 : modulationOctet items 2 ≡ 16 + items / 256 % 8 + 64 * (items / 256 / 8 % 4)
+  unfolding places placeOf itemBits modulationOctet choose
+  octet-2 = simp (sym (div-div-eq-div-mul items 256 2), sym (div-div-eq-div-mul items 256 4), sym (div-div-eq-div-mul items 256 8), sym (div-div-eq-div-mul items 256 16)) (omega (arith, five-bits (items / 256)))
+
+-- the items of a set are read from its octets
+abbrev readBack : ℕ → ℕ
+readBack items = itemsOf (modulationOctet items 0 ∷ modulationOctet items 1 ∷ modulationOctet items 2 ∷ [])
+
+pub items-back : (items : ℕ) → items < 8192 → itemsOf (modulationOctet items 0 ∷ modulationOctet items 1 ∷ modulationOctet items 2 ∷ []) ≡ items
+unfolding places placeOf hasItem setOf itemBits modulationOctet allBelow both choose
+items-back items h = eqb→eq (readBack items) items (below (λ (n : ℕ). eqb (readBack n) n) 8192 tt items h)

@@ -1,10 +1,12 @@
 -- Reading a menu, by whether its octets can be read; and that answers are known by what they say.
 -- Assumes nothing.
-use Prim.Native.Nat.{ℕ}
+use Prim.Native.Nat.{ℕ, suc}
+use native.Mathlib.Omega.{arith}
 use mathlib.Core.Path.{_≡_, refl, sym, ap, _∙_}
 use mathlib.Core.List.{List}
-use borrow.Author.Tests.{eq-eqb, ne-eqb}
+use borrow.Author.Tests.{eq-eqb, ne-eqb, eqb-true}
 use Rattle.laws.specs.Choice.{choose}
+use Rattle.laws.proofs.Chosen.{chosen}
 use Rattle.octets.specs.declared.Purpose.the-variants.{Reading}
 use Rattle.octets.specs.declared.Refusal.{Refusal}
 use Rattle.octets.specs.Refusals.{number}
@@ -12,11 +14,21 @@ use Rattle.octets.specs.Lists.{listFault}
 use Rattle.octets.proofs.Numbers.{named, named-number, number-some}
 use Rattle.menus.specs.declared.Found.{Found}
 use Rattle.menus.specs.declared.Found.the-variants as found
+use Rattle.menus.specs.declared.Offer.{Offer}
 use Rattle.menus.specs.declared.Menu.{Menu}
 use Rattle.menus.specs.declared.Menu.the-variants.{Offers, Refused}
 use Rattle.menus.specs.Groups.{Looked, place, nowhere, says}
 use Rattle.menus.specs.Groups as groups
 use Rattle.menus.specs.Offer.{Read, offers, refusal, offerOf, saysRead, menuRead}
+
+-- what a read menu carries
+abbrev refusedWith : Read → ℕ
+refusedWith (offers o) = 0
+refusedWith (refusal n) = suc n
+
+abbrev offeredOr : Offer → Read → Offer
+offeredOr none (offers o) = o
+offeredOr none (refusal n) = none
 
 module _ (octets : List ℕ) where
   pub menu-read : listFault Reading octets ≡ 0 → menuRead octets ≡ offers (offerOf octets)
@@ -26,6 +38,21 @@ module _ (octets : List ℕ) where
   pub menu-refused : (r : Refusal) → number r ≡ listFault Reading octets → refusal (number r) ≡ menuRead octets
   unfolding menuRead choose
   menu-refused r e = simp (ne-eqb (listFault Reading octets) 0 (λ z. number-some r (e ∙ z))) (ap refusal e)
+
+  -- and what an answer of the reader tells of its octets
+  pub read-refused : (r : Refusal) → refusal (number r) ≡ menuRead octets → number r ≡ listFault Reading octets
+  unfolding menuRead
+  read-refused r =
+      chosen (λ (m : Read). refusal (number r) ≡ m → number r ≡ listFault Reading octets) _ _ _
+      (λ _ e. absurd (omega (arith, ap refusedWith e)))
+      (λ _ e. omega (arith, ap refusedWith e))
+
+  pub read-offered : (offer : Offer) → offers offer ≡ menuRead octets → (listFault Reading octets ≡ 0) × (offer ≡ offerOf octets)
+  unfolding menuRead
+  read-offered offer =
+      chosen (λ (m : Read). offers offer ≡ m → (listFault Reading octets ≡ 0) × (offer ≡ offerOf octets)) _ _ _
+      (λ t e. (eqb-true _ _ t, ap (offeredOr offer) e))
+      (λ _ e. absurd (omega (arith, ap refusedWith e)))
 
 -- no two answers say the same
 abbrev finding : Looked → Found

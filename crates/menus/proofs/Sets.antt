@@ -1,16 +1,20 @@
 -- Laws about sets of items as numbers.
 -- Assumes nothing.
-use Prim.Native.Nat.{ℕ, zero, suc, _<_, _≤_, _+_, _*_, _^_}
+use Prim.Native.Nat.{ℕ, zero, suc, _<_, _≤_, _+_, _*_, _/_, _^_}
+use native.Mathlib.Nat.{div-eq-of-lt, lt-of-lt-of-le, not-suc-le-zero, le-of-suc-le-suc, eq-or-lt-of-le}
 use native.Mathlib.Numerals.{add-one}
 use native.Mathlib.Omega.{arith}
-use mathlib.Core.Path.{_≡_, refl}
-use mathlib.Core.Bool.{Bool}
-use lib.Dec.{ltb, ltb→lt, lit<}
+use mathlib.Core.Path.{_≡_, refl, ap, _∙_}
+use mathlib.Core.Bool.{Bool, true, false}
+use mathlib.Core.Logic.{⊎-elim}
+use lib.Dec.{ltb, ltb→lt, eqb, lit<}
+use lib.Pow.{pow-mono}
 use Rattle.laws.specs.Choice.{choose, both}
 use Rattle.laws.specs.Tests.{allBelow}
 use Rattle.laws.proofs.Chosen.{chosen}
 use Rattle.laws.proofs.Computed.{below}
-use Rattle.menus.specs.Items.{setOf}
+use Rattle.menus.specs.Items.{setOf, bitOf, inSet}
+use Rattle.menus.proofs.Bits.{bit-below, bit-at}
 
 -- the weights of the items
 pub weight-small : (i : ℕ) → i < 14 → 2 ^ i < 8193
@@ -29,3 +33,37 @@ set-small f (suc n) = chosen (λ (w : ℕ). setOf f n + w < 2 ^ suc n) (f n) (2 
 pub set-more : (f : ℕ → Bool) (n : ℕ) → setOf f n + choose (f n) (2 ^ n) 0 ≡ setOf f (n + 1)
 unfolding setOf
 set-more f n = rw add-one
+
+-- no item above 15 is in a set of 16 bits
+pub past-set : (items i : ℕ) → items < 65536 → 16 ≤ i → inSet items i ≡ false
+unfolding inSet
+past-set items i small h =
+    let none : items / 2 ^ i ≡ 0 = div-eq-of-lt (lt-of-lt-of-le small (pow-mono h)) in
+    simp none
+
+-- an item is in the set exactly where it was put there
+weight-of : (t : Bool) (w x : ℕ) → x + choose t w 0 ≡ choose t 1 0 * w + x
+unfolding choose
+weight-of true w x = omega arith
+weight-of false w x = omega arith
+
+bit-of-test : (t : Bool) → (choose t 1 0 < 2) × (eqb (choose t 1 0) 1 ≡ t)
+unfolding choose
+bit-of-test true = (lit< tt, refl)
+bit-of-test false = (lit< tt, refl)
+
+pub set-has : (f : ℕ → Bool) (n i : ℕ) → i < n → inSet (setOf f n) i ≡ f i
+unfolding inSet setOf
+set-has f zero i h = absurd (not-suc-le-zero h)
+set-has f (suc n) i h =
+    let split = weight-of (f n) (2 ^ n) (setOf f n) in
+    ap (λ (s : ℕ). eqb (bitOf i s) 1) split
+    ∙ ⊎-elim (λ e. rw e (ap (λ (k : ℕ). eqb k 1) (bit-at (choose (f n) 1 0) n (setOf f n) (bit-of-test (f n) .0) (set-small f n)) ∙ bit-of-test (f n) .1))
+    (λ l. ap (λ (k : ℕ). eqb k 1) (bit-below (choose (f n) 1 0) n (setOf f n) i l) ∙ set-has f n i l)
+    (eq-or-lt-of-le (le-of-suc-le-suc h))
+
+-- sets of the same items are the same
+pub set-same : (f g : ℕ → Bool) (n : ℕ) → ((i : ℕ) → i < n → f i ≡ g i) → setOf f n ≡ setOf g n
+unfolding setOf
+set-same f g zero h = refl
+set-same f g (suc n) h = simp (set-same f g n (λ i l. h i (omega (arith, l))), h n (omega arith))

@@ -1,5 +1,5 @@
 -- Document 01, 'Octets of the menu': where the items stand in the modulation group.
-use Prim.Native.Nat.{ℕ, zero, suc, _+_, _%_, _/_, _^_}
+use Prim.Native.Nat.{ℕ, zero, suc, _+_, _*_, _%_, _/_, _^_}
 use mathlib.Core.Bool.{Bool}
 use mathlib.Core.List.{List, [], _∷_}
 use lib.Dec.{eqb}
@@ -33,6 +33,19 @@ unfoldable pub setOf : (ℕ → Bool) → ℕ → ℕ
 setOf f zero = 0
 setOf f (suc n) = setOf f n + choose (f n) (2 ^ n) 0
 
+-- the item is in the set
+unfoldable pub inSet : ℕ → ℕ → Bool
+inSet items i = eqb (bitOf i items) 1
+
 -- items 0 to 12 of a modulation group
 abbrev pub itemsOf : List ℕ → ℕ
 itemsOf group = setOf (hasItem group) 13
+
+-- the bits of an octet of the group in which the items of a set stand, of items below n
+unfoldable pub itemBits : ℕ → ℕ → ℕ → ℕ
+itemBits items octet zero = 0
+itemBits items octet (suc n) = itemBits items octet n + choose (eqb (placeOf n .octet) octet) (bitOf n items * 2 ^ placeOf n .bit .0) 0
+
+-- an octet of the modulation group: the category octet with its tag, then extension octets, with the bits of the items that stand there
+unfoldable pub modulationOctet : ℕ → ℕ → ℕ
+modulationOctet items octet = choose (eqb octet 0) 5 16 + itemBits items octet 13

@@ -3,12 +3,12 @@ use octets::Purpose;
 use octets::Refusal;
 use octets::Verdict;
 ghost use mathlib.Core.Path.{_≡_};
-ghost use Prim.Native.Nat.{_+_, _<_, _≤_};
+ghost use Prim.Native.Nat.{_+_, _*_, _/_, _%_, _<_, _≤_};
 ghost use lib.Dec.{eqb};
 ghost use lib.ListN.{length, take, drop, getD};
 ghost use Rattle.laws.specs.Choice.{choose};
 ghost use Rattle.octets.specs.Lists.{untilCategory};
-ghost use Rattle.menus.specs.Items.{placeOf, bitOf, hasItem, itemsOf};
+ghost use Rattle.menus.specs.Items.{placeOf, bitOf, hasItem, itemsOf, inSet, modulationOctet};
 ghost use Rattle.menus.specs.Offer.{pcmCounted, offerOf, saysRead, menuRead};
 ghost use Rattle.menus.specs.Groups.{says, saysSpot, opensGroup, firstGroup, looked, partAt, groupOf, optionsIn};
 
@@ -185,8 +185,41 @@ fn items_in(group: &[u8]) -> u16
     set
 }
 
+// Whether an item is in a set; none above 15 is.
+pub fn in_set(items: u16, item: Item) -> bool
+    ensures { λ r. ⌜ r ≡ inSet items (item .0) ⌝ }
+{
+    if item.0 < 16 {
+        return (items >> item.0) % 2 == 1;
+    }
+    false
+}
+
+// An extension octet with its five bits for items: b0, b1, b2, b6, b7.
+fn extension_octet(five: u16) -> u8
+    ensures { λ r. ⌜ r ≡ 16 + five % 8 + 64 * (five / 8 % 4) ⌝ }
+{
+    (16 + five % 8 + 64 * (five / 8 % 4)) as u8
+}
+
+// An octet of the modulation group that says these items.
+pub fn modulation_octet(items: u16, octet: u8) -> u8
+    ensures { λ r. ⌜ r ≡ modulationOctet items octet ⌝ }
+{
+    if octet == 0 {
+        return (5 + 32 * (items % 8)) as u8;
+    }
+    if octet == 1 {
+        return extension_octet(items / 8);
+    }
+    if octet == 2 {
+        return extension_octet(items / 256);
+    }
+    16
+}
+
 // The options of a group, 0 where it is missing.
-fn options_in(group: &[u8]) -> u8
+pub fn options_in(group: &[u8]) -> u8
     ensures { λ r. ⌜ r ≡ optionsIn (now (group .entry)) ⌝ }
 {
     if group.len() == 0 {

@@ -1,2 +1,3 @@
 pub mod Lowest
 pub mod Reading
+pub mod Making

@@ -1,5 +1,5 @@
 -- Document 01, 'Menus we make': the choice from CM and JM.
-use Prim.Native.Nat.{ℕ, zero, suc, _+_, _*_, _/_, _%_}
+use Prim.Native.Nat.{ℕ, zero, suc, _+_}
 use mathlib.Core.Bool.{Bool}
 use mathlib.Core.List.{List}
 use lib.Dec.{ltb, eqb}
@@ -7,9 +7,10 @@ use Rattle.laws.specs.Choice.{choose, both}
 use Rattle.octets.specs.declared.Refusal.the-variants.{NotOffered}
 use Rattle.octets.specs.Refusals.{number}
 use Rattle.menus.specs.declared.Offer.{Offer}
-use Rattle.menus.specs.Items.{bitOf}
+use Rattle.menus.specs.Items.{inSet}
 use Rattle.menus.specs.Offer.{Read, menuRead}
 use Rattle.menus.specs.Offer as read
+use Rattle.offers.specs.Making.{paired}
 use Rattle.offers.specs.declared.Choice.{Choice}
 use Rattle.offers.specs.declared.Choice.the-variants.{Nothing, Mode, Pcm, Refused}
 
@@ -26,24 +27,6 @@ saysChoice Nothing = none
 saysChoice (Mode i) = item (i .0)
 saysChoice (Pcm options) = pcm options
 saysChoice (Refused r) = refusal (number r)
-
--- the item is in the set: bit i for item i
-unfoldable pub inSet : ℕ → ℕ → Bool
-inSet items i = eqb (bitOf i items) 1
-
--- the options of a PCM group: "b5 analogue, b6 digital, b7 V.91", b5 lowest
-abbrev pub analogue : ℕ → ℕ
-analogue options = options % 2
-
-abbrev pub digital : ℕ → ℕ
-digital options = options / 2 % 2
-
-abbrev pub v91 : ℕ → ℕ
-v91 options = options / 4 % 2
-
--- "the JM options that pair with CM (b5 with b6, b6 with b5, b7 with b7)"; a product of bits is 1 where both are
-unfoldable pub paired : ℕ → ℕ → ℕ
-paired cm jm = analogue jm * digital cm + 2 * (digital jm * analogue cm) + 4 * (v91 jm * v91 cm)
 
 -- the lowest of n items from i on; 0 where there is none, since item 0 is not looked at
 unfoldable pub lowestFrom : ℕ → ℕ → ℕ → ℕ
@@ -62,7 +45,8 @@ pcmChoice sameFunction options = choose (both sameFunction (ltb 0 options)) (pcm
 unfoldable pub itemChoice : Bool → ℕ → ℕ → Chosen
 itemChoice sameFunction offered i = choose (eqb i 0) none (choose (both sameFunction (inSet offered i)) (item i) (refusal (number NotOffered)))
 
--- "a counted PCM group in JM gives PCM; otherwise the lowest item from 1 to 12 in JM"
+-- "a counted PCM group in JM gives PCM; .. PCM carries the JM options that pair with CM (b5 with b6, b6 with b5, b7 with b7)";
+-- "otherwise the lowest item from 1 to 12 in JM"
 unfoldable pub chosenFrom : Offer → Offer → Chosen
 chosenFrom cm jm =
     choose (ltb 0 (jm .pcm))

@@ -1,11 +1,25 @@
-// Offers: the choice from the menus of both ends.
+// Offers: the menus we make, CM and JM, the call function octet, and the choice from the menus of both ends.
 use menus::Item;
 use menus::Menu;
 use menus::Offer;
+use octets::Purpose;
 use octets::Refusal;
+use octets::Verdict;
+use octets::Wrote;
+use records::Modes;
+use records::Record;
 ghost use mathlib.Core.Path.{_≡_};
-ghost use Prim.Native.Nat.{_<_, _*_};
-ghost use Rattle.offers.specs.Choosing.{inSet, paired, lowest, saysChoice, pcmChoice, itemChoice, chosenFrom, choiceFor, choiceOf};
+ghost use mathlib.Core.Bool.{true, false};
+ghost use Prim.Native.Nat.{_+_, _*_, _<_, _≤_};
+ghost use lib.ListN.{length};
+ghost use Rattle.laws.specs.Choice.{choose, both, either};
+ghost use Rattle.laws.specs.Front.{front};
+ghost use Rattle.octets.specs.Lent.{roomFault, put, Meets};
+ghost use Rattle.menus.specs.Offer.{offerOf};
+ghost use Rattle.records.specs.Record.{badRecord};
+ghost use Rattle.offers.specs.Making.{categoryOctet, oneOctet, modulationGroup, menuOf, bit, withItem0, accessOptions, cmOfferOf, cmOffer, paired, withItem1, jmOfferOf, jmOffer, readable, sourceOf, callFunction, madeCm, madeJm};
+
+ghost use Rattle.offers.specs.Choosing.{lowest, saysChoice, pcmChoice, itemChoice, chosenFrom, choiceFor, choiceOf};
 
 // What both ends go on with.
 pub enum Choice {
@@ -15,11 +29,78 @@ pub enum Choice {
     Refused(Refusal),
 }
 
-fn in_set(items: u16, item: u8) -> bool
-    requires { ⌜ item < 16 ⌝ }
-    ensures { λ r. ⌜ r ≡ inSet items item ⌝ }
+// Where the call function octet of a JM stands: in the heard CM, in our own one, or nowhere.
+pub enum Source {
+    Neither,
+    Heard,
+    Own,
+}
+
+fn both_of(a: bool, b: bool) -> bool
+    ensures { λ r. ⌜ r ≡ both a b ⌝ }
 {
-    (items >> item) % 2 == 1
+    if a {
+        return b;
+    }
+    false
+}
+
+fn either_of(a: bool, b: bool) -> bool
+    ensures { λ r. ⌜ r ≡ either a b ⌝ }
+{
+    if a {
+        return true;
+    }
+    b
+}
+
+fn bit_of(there: bool) -> u8
+    ensures { λ r. ⌜ (r ≡ bit there) × (r < 2) ⌝ }
+{
+    if there {
+        return 1;
+    }
+    0
+}
+
+fn category_octet(tag: u8, options: u8) -> u8
+    requires { ⌜ (tag < 16) × (options < 8) ⌝ }
+    ensures { λ r. ⌜ r ≡ categoryOctet tag options ⌝ }
+{
+    tag + 32 * options
+}
+
+// Item 0 as it is told, and the other items of the set.
+fn with_item_0(there: bool, items: u16) -> u16
+    ensures { λ r. ⌜ r ≡ withItem0 there items ⌝ }
+{
+    items / 2 * 2 + bit_of(there) as u16
+}
+
+fn access_options(there: bool, caller: u8, answerer: u8, digital: bool) -> u8
+    requires { ⌜ (caller < 2) × (answerer < 2) ⌝ }
+    ensures { λ r. ⌜ r ≡ accessOptions there caller answerer digital ⌝ }
+{
+    if there {
+        return caller + 2 * answerer + 4 * bit_of(digital);
+    }
+    0
+}
+
+// What our CM offers for a function with these modes in use.
+fn cm_offer(own: Record, function: u8, modes: Modes) -> Offer
+    ensures { λ r. ⌜ r ≡ cmOfferOf own function modes ⌝ }
+{
+    let pcm = modes.pcm;
+    let there = either_of(own.access, 0 < pcm);
+    Offer {
+        function: function,
+        items: with_item_0(0 < pcm, modes.items),
+        pcm: pcm,
+        lapm: own.lapm,
+        access: there,
+        access_options: access_options(there, bit_of(own.cellular), 0, own.digital),
+    }
 }
 
 // 1 where both bits are.
@@ -33,14 +114,74 @@ fn both_bits(a: u8, b: u8) -> u8
     0
 }
 
-// The PCM options of one menu that pair with those of the other: b5 with b6, b6 with b5, b7 with b7.
-fn paired_options(cm: u8, jm: u8) -> u8
-    ensures { λ r. ⌜ r ≡ paired cm jm ⌝ }
+// The PCM options of one end that pair with those of the other: b5 with b6, b6 with b5, b7 with b7.
+fn paired_options(theirs: u8, ours: u8) -> u8
+    ensures { λ r. ⌜ r ≡ paired theirs ours ⌝ }
 {
-    let b5 = both_bits(jm % 2, cm / 2 % 2);
-    let b6 = both_bits(jm / 2 % 2, cm % 2);
-    let b7 = both_bits(jm / 4 % 2, cm / 4 % 2);
+    let b5 = both_bits(ours % 2, theirs / 2 % 2);
+    let b6 = both_bits(ours / 2 % 2, theirs % 2);
+    let b7 = both_bits(ours / 4 % 2, theirs / 4 % 2);
     b5 + 2 * b6 + 4 * b7
+}
+
+fn with_item_1(shared: bool, options: u8) -> u8
+    ensures { λ r. ⌜ r ≡ withItem1 shared options ⌝ }
+{
+    if shared {
+        return options;
+    }
+    options / 4 * 4
+}
+
+fn answered_function(available: bool, heard: u8, home: u8) -> u8
+    ensures { λ r. ⌜ r ≡ choose available heard home ⌝ }
+{
+    if available {
+        return heard;
+    }
+    home
+}
+
+// What our JM offers for what was heard, with the modes in use for the heard function.
+fn jm_offer(own: Record, cm: Offer, modes: Modes) -> Offer
+    ensures { λ r. ⌜ r ≡ jmOfferOf own cm modes ⌝ }
+{
+    let shared = modes.items & cm.items;
+    let pcm = with_item_1(
+        menus::in_set(shared, Item(1)),
+        paired_options(cm.pcm, modes.pcm),
+    );
+    let caller = cm.access_options % 2;
+    let there = either_of(own.access, either_of(caller == 1, 0 < pcm));
+    Offer {
+        function: answered_function(modes.available, cm.function, own.home),
+        items: with_item_0(0 < pcm, shared),
+        pcm: pcm,
+        lapm: both_of(cm.lapm, own.lapm),
+        access: there,
+        access_options: access_options(there, caller, bit_of(own.cellular), own.digital),
+    }
+}
+
+// A group of one octet, if it is there. Answers how many octets that is.
+fn write_octet(out: &mut [u8], there: bool, octet: u8) -> usize
+    requires { ⌜ length (oneOctet there octet) ≤ length (now out) ⌝ }
+    ensures { λ r. ⌜ (r ≡ length (oneOctet there octet)) × (now (out .exit) ≡ front (oneOctet there octet) (now (out .entry))) ⌝ }
+{
+    if there {
+        out[0] = octet;
+        return 1;
+    }
+    0
+}
+
+fn write_modulation(out: &mut [u8], items: u16)
+    requires { ⌜ 3 ≤ length (now out) ⌝ }
+    ensures { λ _. ⌜ now (out .exit) ≡ front (modulationGroup items) (now (out .entry)) ⌝ }
+{
+    out[0] = menus::modulation_octet(items, 0);
+    out[1] = menus::modulation_octet(items, 1);
+    out[2] = menus::modulation_octet(items, 2);
 }
 
 // The lowest item from 1 to 12, 0 where there is none.
@@ -49,7 +190,7 @@ fn lowest_item(items: u16) -> u8
 {
     let mut i: u8 = 1;
     while i < 13 {
-        if in_set(items, i) {
+        if menus::in_set(items, Item(i)) {
             return i;
         }
         i += 1;
@@ -70,14 +211,13 @@ fn choose_pcm(same_function: bool, options: u8) -> Choice
 }
 
 fn choose_item(same_function: bool, offered: u16, item: u8) -> Choice
-    requires { ⌜ item < 16 ⌝ }
     ensures { λ r. ⌜ saysChoice r ≡ itemChoice «same_function» offered item ⌝ }
 {
     if item == 0 {
         return Choice::Nothing;
     }
     if same_function {
-        if in_set(offered, item) {
+        if menus::in_set(offered, Item(item)) {
             return Choice::Mode(Item(item));
         }
         return Choice::Refused(Refusal::NotOffered);

@@ -1,4 +1,4 @@
-use Rattle.offers.specs.Choosing.{paired}
+use Rattle.offers.specs.Making.{paired}
 use borrow.Author.Needs.{needs}
 use Rattle.offers.proofs.paired_options.Statement.{statement}
 use Rattle.offers.proofs.paired_options.Tie as tie

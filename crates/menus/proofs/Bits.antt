@@ -1,0 +1,47 @@
+-- The bits of a number, and so the items of a set: one by one, in two sets, below and at a weight.
+-- Assumes nothing.
+use Prim.Native.Nat.{ℕ, zero, suc, _<_, _+_, _*_, _/_, _%_, _^_, min}
+use native.Mathlib.Nat.{div-one, div-div-eq-div-mul, zero-min, min-le-left, not-suc-le-zero, le-of-suc-le-suc}
+use native.Mathlib.Omega.{arith}
+use mathlib.Core.Path.{_≡_, refl, sym, ap, _∙_}
+use lib.Bits.{bitAnd, and-step, block-half, block-odd}
+use lib.Dec.{eqb}
+use Rattle.laws.specs.Choice.{both}
+use Rattle.menus.specs.Items.{bitOf, inSet}
+
+-- the first bit, and a later one in half the number
+bit-first : (n : ℕ) → bitOf 0 n ≡ n % 2
+bit-first n = ap (λ (k : ℕ). k % 2) (div-one n)
+
+bit-next : (i n : ℕ) → bitOf (suc i) n ≡ bitOf i (n / 2)
+bit-next i n = let twice : 2 ^ suc i ≡ 2 * 2 ^ i = omega arith in ap (λ (k : ℕ). n / k % 2) twice ∙ ap (λ (k : ℕ). k % 2) (sym (div-div-eq-div-mul n 2 (2 ^ i)))
+
+-- two bits that are 1
+min-bits : (a b : ℕ) → a < 2 → b < 2 → eqb (min a b) 1 ≡ both (eqb a 1) (eqb b 1)
+unfolding both
+min-bits zero b h k = simp (zero-min b)
+min-bits (suc zero) zero h k = refl
+min-bits (suc zero) (suc zero) h k = refl
+min-bits (suc zero) (suc (suc b)) h k = absurd (omega (arith, k))
+min-bits (suc (suc a)) b h k = absurd (omega (arith, h))
+
+-- an item is in what two sets share where it is in both
+pub in-both : (a b i : ℕ) → inSet (bitAnd a b) i ≡ both (inSet a i) (inSet b i)
+unfolding inSet
+in-both a b zero =
+    let low : bitAnd a b % 2 ≡ min (a % 2) (b % 2) = omega (arith, and-step a b, min-le-left (a % 2) (b % 2)) in
+    rw (bit-first (bitAnd a b), bit-first a, bit-first b, low) (min-bits (a % 2) (b % 2) (omega arith) (omega arith))
+in-both a b (suc i) =
+    let high : bitAnd a b / 2 ≡ bitAnd (a / 2) (b / 2) = omega (arith, and-step a b, min-le-left (a % 2) (b % 2)) in
+    rw (bit-next i (bitAnd a b), bit-next i a, bit-next i b, high) (in-both (a / 2) (b / 2) i)
+
+-- a number below a weight, and a multiple of the weight
+pub bit-below : (a n r i : ℕ) → i < n → bitOf i (a * 2 ^ n + r) ≡ bitOf i r
+bit-below a zero r i h = absurd (not-suc-le-zero h)
+bit-below a (suc n) r zero h = bit-first (a * 2 ^ suc n + r) ∙ block-odd a n r ∙ sym (bit-first r)
+bit-below a (suc n) r (suc i) h =
+    bit-next i (a * 2 ^ suc n + r) ∙ ap (bitOf i) (block-half a n r) ∙ bit-below a n (r / 2) i (le-of-suc-le-suc h) ∙ sym (bit-next i r)
+
+pub bit-at : (a n r : ℕ) → a < 2 → r < 2 ^ n → bitOf n (a * 2 ^ n + r) ≡ a
+bit-at a zero r h k = bit-first (a * 1 + r) ∙ omega (arith, h, k)
+bit-at a (suc n) r h k = bit-next n (a * 2 ^ suc n + r) ∙ ap (bitOf n) (block-half a n r) ∙ bit-at a n (r / 2) h (omega (arith, k))

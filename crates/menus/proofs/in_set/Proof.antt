@@ -1,0 +1,22 @@
+use borrow.Author.Needs.{needs}
+use mathlib.Core.Path.{refl, sym}
+use Rattle.menus.specs.Items.{inSet}
+use Rattle.menus.proofs.Sets.{past-set}
+use Rattle.menus.proofs.in_set.Statement.{statement}
+use Rattle.menus.proofs.in_set.Tie as tie
+
+cast-result : tie.Need-cast-result
+cast-result c = search needs
+
+shr-result : tie.Need-shr-result
+shr-result c = search needs
+
+returns : tie.Need-returns
+unfolding inSet
+returns c = refl
+
+returns-2 : tie.Need-returns-2
+returns-2 c = sym (past-set (c .before .before .args .items) (c .before .before .args .item .0) (search needs) (c .if1 .left))
+
+pub in-set-spec : {M : Type 1} → statement M
+in-set-spec = tie.close (tie.spec cast-result shr-result returns returns-2)

@@ -1,0 +1,64 @@
+-- What a record that is not bad has for every function.
+-- Assumes nothing.
+use Prim.Native.Nat.{ℕ, zero, suc, _<_, _≤_, _%_, _/_}
+use native.Mathlib.Omega.{arith}
+use mathlib.Core.Path.{_≡_, refl, sym, ap, _∙_}
+use mathlib.Core.Bool.{Bool, true, false}
+use mathlib.Core.List.{List, [], _∷_}
+use borrow.Author.Tests.{ltb-true, ltb-false, leb-false, eqb-true, eqb-false}
+use lib.Dec.{ltb, eqb}
+use lib.ListN.{length, getD}
+use Rattle.laws.specs.Choice.{choose, either}
+use Rattle.laws.proofs.Chosen.{chosen, either-false, clash}
+use Rattle.records.specs.declared.Modes.{Modes}
+use Rattle.records.specs.declared.Record.{Record}
+use Rattle.records.specs.Record.{noModes, modesAt, inUse, lacksItem1, badModes, anyBad, badRecord}
+use Rattle.records.proofs.Functions.{modes-past}
+
+-- no function of it is bad
+each-good : (functions : List Modes) (n : ℕ) → anyBad functions ≡ false → badModes (getD functions n noModes) ≡ false
+unfolding anyBad choose either
+each-good [] n h = refl
+each-good (modes ∷ rest) zero h = either-false (badModes modes) (anyBad rest) h .0
+each-good (modes ∷ rest) (suc n) h = each-good rest n (either-false (badModes modes) (anyBad rest) h .1)
+
+used-good : (functions : List Modes) (f : ℕ) → anyBad functions ≡ false → badModes (modesAt functions f) ≡ false
+unfolding modesAt choose either
+used-good functions zero h = refl
+used-good functions (suc n) h = chosen (λ (m : Modes). badModes m ≡ false) (getD functions n noModes .available) _ _ (λ _. each-good functions n h) (λ _. refl)
+
+item-1-there : (pcm items : ℕ) → lacksItem1 pcm items ≡ false → (pcm % 4 ≡ 0 → ⊥) → eqb (items / 2 % 2) 0 ≡ false
+item-1-there pcm items h some = chosen (λ (b : Bool). b ≡ false → eqb (items / 2 % 2) 0 ≡ false) (eqb (pcm % 4) 0) _ _ (λ t _. absurd (some (eqb-true _ _ t))) (λ _ e. e) h
+
+-- what the test leaves
+pub record Good (modes : Modes) : Type 0 where
+  pub items : modes .items < 8192
+  pub none : modes .items % 2 ≡ 0
+  pub pcm : modes .pcm < 8
+  pub item-1 : (modes .pcm % 4 ≡ 0 → ⊥) → modes .items / 2 % 2 ≡ 1
+
+module _ (rec : Record) (good : badRecord rec ≡ false) where
+  pub good-home : (inUse rec (rec .home) .available ≡ true) × (anyBad (rec .functions) ≡ false)
+  unfolding badRecord
+  good-home = chosen (λ (b : Bool). b ≡ false → (inUse rec (rec .home) .available ≡ true) × (anyBad (rec .functions) ≡ false)) _ _ _ (λ t h. (t, h)) (λ _ h. clash h) good
+
+  pub good-modes : (f : ℕ) → Good (inUse rec f)
+  good-modes f =
+      let used = inUse rec f in
+      let all = either-false _ _ (used-good (rec .functions) f (good-home .1)) in
+      let outside = either-false _ _ (all .0) in
+      let pcm = either-false _ _ (all .1) in
+      record {
+        items = leb-false _ _ (outside .1);
+        none = omega (arith, eqb-false (used .items % 2) 1 (outside .0));
+        pcm = omega (arith, ltb-false 7 (used .pcm) (pcm .0));
+        item-1 = λ some. omega (arith, eqb-false (used .items / 2 % 2) 0 (item-1-there (used .pcm) (used .items) (pcm .1) some));
+      }
+
+-- only a function of the record is available
+within-by : (functions : List Modes) (f : ℕ) (past : Bool) → ltb (length functions) f ≡ past → modesAt functions f .available ≡ true → f ≤ length functions
+within-by functions f true p h = let none = modes-past functions f (ltb-true _ _ p) in clash (sym h ∙ ap (λ (m : Modes). m .available) none)
+within-by functions f false p h = ltb-false _ _ p
+
+pub available-within : (functions : List Modes) (f : ℕ) → modesAt functions f .available ≡ true → f ≤ length functions
+available-within functions f h = within-by functions f (ltb (length functions) f) refl h
