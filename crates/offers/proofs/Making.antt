@@ -1,15 +1,58 @@
 -- The menus we make: how long they are, and that their groups are what the reader finds.
 -- Assumes nothing.
-use Prim.Native.Nat.{ℕ, _<_, _≤_}
-use mathlib.Core.Path.{_≡_, sym}
+use Prim.Native.Nat.{ℕ, zero, suc, _<_, _≤_, _+_}
+use native.Mathlib.Omega.{arith}
+use mathlib.Core.Path.{_≡_, refl, sym, ap, subst, _∙_}
 use mathlib.Core.Bool.{Bool, true, false}
-use mathlib.Core.List.{List}
-use lib.ListN.{length}
+use mathlib.Core.List.{List, [], _∷_, _++_, append-nil, append-assoc}
+use lib.ListN.{length, take, getD, length-append}
+use lib.Dec.{ltb}
+use lib.Seq.{take-nil}
 use Rattle.laws.specs.Choice.{choose}
 use Rattle.laws.proofs.Chosen.{clash}
-use Rattle.offers.specs.Making.{oneOctet}
+use Rattle.menus.specs.declared.Offer.{Offer}
+use Rattle.menus.specs.Offer.{pcmTag, protocol, access}
+use Rattle.offers.specs.Making.{categoryOctet, oneOctet, modulationGroup, groupsOf, joined, menuOf, bit}
+use Rattle.offers.specs.Parts.{WritesGroup}
 
 pub one-there : (there : Bool) (octet : ℕ) (out : List ℕ) → there ≡ true → length (oneOctet there octet) ≤ length out → 0 < length out
 unfolding choose
 one-there true octet out t h = h
 one-there false octet out t h = clash (sym t)
+
+-- a group by its number
+module _ (offer : Offer) (k n : ℕ) (same : k ≡ n) (out : List ℕ) where
+  pub group-room : length (getD (groupsOf offer) k []) ≤ length out → length (getD (groupsOf offer) n []) ≤ length out
+  group-room h = subst (λ (i : ℕ). length (getD (groupsOf offer) i []) ≤ length out) same h
+
+  pub group-written : (r : ℕ) (after : List ℕ) → WritesGroup (getD (groupsOf offer) n []) out r after → WritesGroup (getD (groupsOf offer) k []) out r after
+  group-written r after w = subst (λ (i : ℕ). WritesGroup (getD (groupsOf offer) i []) out r after) (sym same) w
+
+-- groups joined: one more behind the others, and no more than all of them
+pub joined-more : (groups : List (List ℕ)) (k : ℕ) → joined (take (k + 1) groups) ≡ joined (take k groups) ++ getD groups k []
+unfolding joined
+joined-more [] k = simp (take-nil {A = List ℕ} k, take-nil {A = List ℕ} (k + 1))
+joined-more (group ∷ groups) zero = append-nil group
+joined-more (group ∷ groups) (suc k) = ap (λ (l : List ℕ). group ++ l) (joined-more groups k) ∙ sym (append-assoc group (joined (take k groups)) (getD groups k []))
+
+pub joined-more-length : (groups : List (List ℕ)) (k : ℕ) → length (joined (take (k + 1) groups)) ≡ length (joined (take k groups)) + length (getD groups k [])
+joined-more-length groups k = ap length (joined-more groups k) ∙ length-append (joined (take k groups)) (getD groups k [])
+
+pub joined-within : (groups : List (List ℕ)) (k : ℕ) → length (joined (take k groups)) ≤ length (joined groups)
+unfolding joined
+joined-within [] k = simp (take-nil {A = List ℕ} k) (omega arith)
+joined-within (group ∷ groups) zero = omega arith
+joined-within (group ∷ groups) (suc k) = omega (arith, joined-within groups k, length-append group (joined groups), length-append group (joined (take k groups)))
+
+one-length : (there : Bool) (octet : ℕ) → length (oneOctet there octet) ≡ bit there
+unfolding choose
+one-length true octet = refl
+one-length false octet = refl
+
+pub menu-length : (offer : Offer) → length (menuOf offer) ≡ 4 + bit (ltb 0 (offer .pcm)) + bit (offer .lapm) + bit (offer .access)
+unfolding joined modulationGroup
+menu-length offer =
+    let protocols = oneOctet (offer .lapm) (categoryOctet protocol 1) in
+    let pcms = oneOctet (ltb 0 (offer .pcm)) (categoryOctet pcmTag (offer .pcm)) in
+    let accesses = oneOctet (offer .access) (categoryOctet access (offer .«access_options»)) in
+    omega (arith, length-append pcms (protocols ++ (accesses ++ [])), length-append protocols (accesses ++ []), length-append accesses [], one-length (ltb 0 (offer .pcm)) (categoryOctet pcmTag (offer .pcm)), one-length (offer .lapm) (categoryOctet protocol 1), one-length (offer .access) (categoryOctet access (offer .«access_options»)))

@@ -31,14 +31,24 @@ oneOctet there octet = choose there (octet ∷ []) []
 unfoldable pub modulationGroup : ℕ → List ℕ
 modulationGroup items = modulationOctet items 0 ∷ modulationOctet items 1 ∷ modulationOctet items 2 ∷ []
 
--- "Group order is house: call function, modulation, PCM, protocol, access.": the menu that says an offer
-unfoldable pub menuOf : Offer → List ℕ
-menuOf offer =
+-- "Group order is house: call function, modulation, PCM, protocol, access."
+abbrev pub groupsOf : Offer → List (List ℕ)
+groupsOf offer =
     (categoryOctet 1 (offer .function) ∷ [])
-    ++ modulationGroup (offer .items)
-    ++ oneOctet (ltb 0 (offer .pcm)) (categoryOctet pcmTag (offer .pcm))
-    ++ oneOctet (offer .lapm) (categoryOctet protocol 1)
-    ++ oneOctet (offer .access) (categoryOctet access (offer .«access_options»))
+    ∷ modulationGroup (offer .items)
+    ∷ oneOctet (ltb 0 (offer .pcm)) (categoryOctet pcmTag (offer .pcm))
+    ∷ oneOctet (offer .lapm) (categoryOctet protocol 1)
+    ∷ oneOctet (offer .access) (categoryOctet access (offer .«access_options»))
+    ∷ []
+
+-- groups, one behind the other
+unfoldable pub joined : List (List ℕ) → List ℕ
+joined [] = []
+joined (group ∷ groups) = group ++ joined groups
+
+-- the menu that says an offer
+abbrev pub menuOf : Offer → List ℕ
+menuOf offer = joined (groupsOf offer)
 
 -- a test as a bit
 abbrev pub bit : Bool → ℕ

@@ -11,14 +11,16 @@ use records::Record;
 ghost use mathlib.Core.Path.{_≡_};
 ghost use mathlib.Core.Bool.{true, false};
 ghost use Prim.Native.Nat.{_+_, _*_, _<_, _≤_};
-ghost use lib.ListN.{length};
+ghost use mathlib.Core.List.{[]};
+ghost use lib.ListN.{length, getD};
 ghost use Rattle.laws.specs.Choice.{choose, both, either};
 ghost use Rattle.laws.specs.Front.{front};
 ghost use Rattle.octets.specs.Lent.{roomFault, put, Meets};
 ghost use Rattle.menus.specs.Offer.{offerOf};
 ghost use Rattle.records.specs.Record.{badRecord};
-ghost use Rattle.offers.specs.Making.{categoryOctet, oneOctet, modulationGroup, menuOf, bit, withItem0, accessOptions, cmOfferOf, cmOffer, paired, withItem1, jmOfferOf, jmOffer, readable, sourceOf, callFunction, madeCm, madeJm};
+ghost use Rattle.offers.specs.Making.{categoryOctet, oneOctet, modulationGroup, groupsOf, menuOf, bit, withItem0, accessOptions, cmOfferOf, cmOffer, paired, withItem1, jmOfferOf, jmOffer, readable, sourceOf, callFunction, madeCm, madeJm};
 
+ghost use Rattle.offers.specs.Parts.{WritesGroup, Says};
 ghost use Rattle.offers.specs.Choosing.{lowest, saysChoice, pcmChoice, itemChoice, chosenFrom, choiceFor, choiceOf};
 
 // What both ends go on with.
@@ -166,7 +168,7 @@ fn jm_offer(own: Record, cm: Offer, modes: Modes) -> Offer
 // A group of one octet, if it is there. Answers how many octets that is.
 fn write_octet(out: &mut [u8], there: bool, octet: u8) -> usize
     requires { ⌜ length (oneOctet there octet) ≤ length (now out) ⌝ }
-    ensures { λ r. ⌜ (r ≡ length (oneOctet there octet)) × (now (out .exit) ≡ front (oneOctet there octet) (now (out .entry))) ⌝ }
+    ensures { λ r. ⌜ WritesGroup (oneOctet there octet) (now (out .entry)) r (now (out .exit)) ⌝ }
 {
     if there {
         out[0] = octet;
@@ -175,13 +177,53 @@ fn write_octet(out: &mut [u8], there: bool, octet: u8) -> usize
     0
 }
 
-fn write_modulation(out: &mut [u8], items: u16)
+fn write_modulation(out: &mut [u8], items: u16) -> usize
     requires { ⌜ 3 ≤ length (now out) ⌝ }
-    ensures { λ _. ⌜ now (out .exit) ≡ front (modulationGroup items) (now (out .entry)) ⌝ }
+    ensures { λ r. ⌜ WritesGroup (modulationGroup items) (now (out .entry)) r (now (out .exit)) ⌝ }
 {
     out[0] = menus::modulation_octet(items, 0);
     out[1] = menus::modulation_octet(items, 1);
     out[2] = menus::modulation_octet(items, 2);
+    3
+}
+
+// A group of a menu, the call function's first. Answers how many octets that is.
+fn write_group(out: &mut [u8], call: u8, offer: Offer, k: u8) -> usize
+    requires { ⌜ Says call offer × (k < 5) × (length (getD (groupsOf offer) k []) ≤ length (now out)) ⌝ }
+    ensures { λ r. ⌜ WritesGroup (getD (groupsOf offer) k []) (now (out .entry)) r (now (out .exit)) ⌝ }
+{
+    if k == 0 {
+        return write_octet(out, true, call);
+    }
+    if k == 1 {
+        return write_modulation(out, offer.items);
+    }
+    if k == 2 {
+        return write_octet(out, 0 < offer.pcm, category_octet(7, offer.pcm));
+    }
+    if k == 3 {
+        return write_octet(out, offer.lapm, category_octet(10, 1));
+    }
+    write_octet(out, offer.access, category_octet(13, offer.access_options))
+}
+
+// The menu that says an offer, group by group, each into what is left behind the group before it.
+fn write_menu(out: &mut [u8], call: u8, offer: Offer)
+    requires { ⌜ Says call offer × (length (menuOf offer) ≤ length (now out)) ⌝ }
+    ensures { λ _. ⌜ now (out .exit) ≡ front (menuOf offer) (now (out .entry)) ⌝ }
+{
+    let mut at: usize = 0;
+    let mut k: u8 = 0;
+    while k < 5 {
+        at += write_group(&mut out[at..], call, offer, k);
+        k += 1;
+    }
+}
+
+fn menu_size(offer: Offer) -> usize
+    ensures { λ r. ⌜ r ≡ length (menuOf offer) ⌝ }
+{
+    4 + bit_of(0 < offer.pcm) as usize + bit_of(offer.lapm) as usize + bit_of(offer.access) as usize
 }
 
 // The lowest item from 1 to 12, 0 where there is none.

@@ -1,6 +1,6 @@
 use borrow.Author.Needs.{needs}
 use native.Mathlib.Omega.{arith}
-use mathlib.Core.Path.{_∙_}
+use mathlib.Core.Path.{refl, _∙_}
 use mathlib.Core.List.{[], _∷_}
 use lib.ListN.{length-set}
 use lib.Seq.{sets-eq}
@@ -34,8 +34,12 @@ returns : tie.Need-returns
 unfolding modulationGroup
 returns c =
     let s = c .before .before .before .before in
-    sets-eq (c .before .before .modulation-octet .result ∷ c .before .modulation-octet2 .result ∷ c .modulation-octet3 .result ∷ []) (now (s .args .out)) 0 (s .pre)
-    ∙ simp (c .before .before .modulation-octet .ensures, c .before .modulation-octet2 .ensures, c .modulation-octet3 .ensures)
+    record {
+      count = refl;
+      buffer =
+          sets-eq (c .before .before .modulation-octet .result ∷ c .before .modulation-octet2 .result ∷ c .modulation-octet3 .result ∷ []) (now (s .args .out)) 0 (s .pre)
+          ∙ simp (c .before .before .modulation-octet .ensures, c .before .modulation-octet2 .ensures, c .modulation-octet3 .ensures);
+    }
 
 pub write-modulation-spec : {M : Type 1} → statement M
 write-modulation-spec =

@@ -16,11 +16,11 @@ same-length c = search needs
 
 returns : tie.Need-returns
 unfolding choose
-returns c = (simp (c .if1 .taken), simp (c .if1 .taken) (sets-eq (c .before .args .octet ∷ []) (now (c .before .args .out)) 0 (one-there (c .before .args .there) (c .before .args .octet) (now (c .before .args .out)) (c .if1 .taken) (c .before .pre))))
+returns c = record { count = simp (c .if1 .taken); buffer = simp (c .if1 .taken) (sets-eq (c .before .args .octet ∷ []) (now (c .before .args .out)) 0 (one-there (c .before .args .there) (c .before .args .octet) (now (c .before .args .out)) (c .if1 .taken) (c .before .pre))) }
 
 returns-2 : tie.Need-returns-2
 unfolding choose
-returns-2 c = (simp (c .if1 .left), simp (c .if1 .left))
+returns-2 c = record { count = simp (c .if1 .left); buffer = simp (c .if1 .left) }
 
 pub write-octet-spec : {M : Type 1} → statement M
 write-octet-spec = tie.close (tie.spec slice-write-out same-length returns returns-2)
