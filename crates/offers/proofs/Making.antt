@@ -33,7 +33,9 @@ pub joined-more : (groups : List (List ℕ)) (k : ℕ) → joined (take (k + 1) 
 unfolding joined
 joined-more [] k = simp (take-nil {A = List ℕ} k, take-nil {A = List ℕ} (k + 1))
 joined-more (group ∷ groups) zero = append-nil group
-joined-more (group ∷ groups) (suc k) = ap (λ (l : List ℕ). group ++ l) (joined-more groups k) ∙ sym (append-assoc group (joined (take k groups)) (getD groups k []))
+joined-more (group ∷ groups) (suc k) =
+    let e : suc k + 1 ≡ suc (k + 1) = omega arith in
+    ap (λ (n : ℕ). joined (take n (group ∷ groups))) e ∙ ap (λ (l : List ℕ). group ++ l) (joined-more groups k) ∙ sym (append-assoc group (joined (take k groups)) (getD groups k []))
 
 pub joined-more-length : (groups : List (List ℕ)) (k : ℕ) → length (joined (take (k + 1) groups)) ≡ length (joined (take k groups)) + length (getD groups k [])
 joined-more-length groups k = ap length (joined-more groups k) ∙ length-append (joined (take k groups)) (getD groups k [])
