@@ -1,19 +1,22 @@
 -- The menus we make: how long they are, and that their groups are what the reader finds.
 -- Assumes nothing.
-use Prim.Native.Nat.{ℕ, zero, suc, _<_, _≤_, _+_}
+use Prim.Native.Nat.{ℕ, zero, suc, _<_, _≤_, _+_, _*_}
 use native.Mathlib.Omega.{arith}
 use mathlib.Core.Path.{_≡_, refl, sym, ap, subst, _∙_}
 use mathlib.Core.Bool.{Bool, true, false}
 use mathlib.Core.List.{List, [], _∷_, _++_, append-nil, append-assoc}
 use lib.ListN.{length, take, getD, length-append}
-use lib.Dec.{ltb}
+use lib.Dec.{ltb, lit<}
 use lib.Seq.{take-nil}
 use Rattle.laws.specs.Choice.{choose}
-use Rattle.laws.proofs.Chosen.{clash}
+use Rattle.laws.proofs.Chosen.{chosen, clash}
+use Rattle.records.specs.declared.Record.{Record}
+use Rattle.records.specs.Record.{inUse, badRecord}
+use Rattle.records.proofs.Good.{good-modes}
 use Rattle.menus.specs.declared.Offer.{Offer}
 use Rattle.menus.specs.Offer.{pcmTag, protocol, access}
-use Rattle.offers.specs.Making.{categoryOctet, oneOctet, modulationGroup, groupsOf, joined, menuOf, bit}
-use Rattle.offers.specs.Parts.{WritesGroup}
+use Rattle.offers.specs.Making.{categoryOctet, oneOctet, modulationGroup, groupsOf, joined, menuOf, bit, accessOptions, cmAccess, cmOffer, recordFault, functionFault}
+use Rattle.offers.specs.Parts.{WritesGroup, Says}
 
 pub one-there : (there : Bool) (octet : ℕ) (out : List ℕ) → there ≡ true → length (oneOctet there octet) ≤ length out → 0 < length out
 unfolding choose
@@ -58,3 +61,42 @@ menu-length offer =
     let pcms = oneOctet (ltb 0 (offer .pcm)) (categoryOctet pcmTag (offer .pcm)) in
     let accesses = oneOctet (offer .access) (categoryOctet access (offer .«access_options»)) in
     omega (arith, length-append pcms (protocols ++ (accesses ++ [])), length-append protocols (accesses ++ []), length-append accesses [], one-length (ltb 0 (offer .pcm)) (categoryOctet pcmTag (offer .pcm)), one-length (offer .lapm) (categoryOctet protocol 1), one-length (offer .access) (categoryOctet access (offer .«access_options»)))
+
+-- options of an access group are options
+bit-small : (t : Bool) → bit t < 2
+bit-small t = chosen (λ (n : ℕ). n < 2) t 1 0 (λ _. lit< tt) (λ _. lit< tt)
+
+access-small : (there : Bool) (caller answerer : ℕ) (digital : Bool) → caller < 2 → answerer < 2 → accessOptions there caller answerer digital < 8
+access-small there caller answerer digital h k =
+    chosen (λ (n : ℕ). n < 8) there (caller + 2 * answerer + 4 * bit digital) 0 (λ _. omega (arith, h, k, bit-small digital)) (λ _. lit< tt)
+
+module _ (own : Record) (good : badRecord own ≡ false) where
+  -- what is made from a record that is not bad can be written
+  pub cm-says : (function : ℕ) → Says (categoryOctet 1 function) (cmOffer own function)
+  cm-says function = record {
+    octet = refl;
+    pcm = good-modes own good function .pcm;
+    access = access-small (cmAccess own (inUse own function .pcm)) (bit (own .cellular)) 0 (own .digital) (bit-small (own .cellular)) (lit< tt);
+  }
+
+-- refusals of a menu that is made from a record, by the tests
+pub bad-record : (own : Record) → badRecord own ≡ true → 10 ≡ recordFault own
+unfolding choose
+bad-record own t = simp t
+
+pub good-record : (own : Record) → badRecord own ≡ false → recordFault own ≡ 0
+unfolding choose
+good-record own t = simp t
+
+pub function-there : (own : Record) (function : ℕ) → inUse own function .available ≡ true → functionFault own function ≡ 0
+unfolding choose
+function-there own function t = simp t
+
+pub function-missing : (own : Record) (function : ℕ) → inUse own function .available ≡ false → 5 ≡ functionFault own function
+unfolding choose
+function-missing own function t = simp t
+
+-- no octets, no first one
+pub no-first : (octets : List ℕ) → length octets ≤ 0 → [] ≡ take 1 octets
+no-first [] h = refl
+no-first (b ∷ octets) h = absurd (omega (arith, h))

@@ -12,7 +12,7 @@ ghost use mathlib.Core.Path.{_≡_};
 ghost use mathlib.Core.Bool.{true, false};
 ghost use Prim.Native.Nat.{_+_, _*_, _<_, _≤_};
 ghost use mathlib.Core.List.{[]};
-ghost use lib.ListN.{length, getD};
+ghost use lib.ListN.{length, take, getD};
 ghost use Rattle.laws.specs.Choice.{choose, both, either};
 ghost use Rattle.laws.specs.Front.{front};
 ghost use Rattle.octets.specs.Lent.{roomFault, put, Meets};
@@ -224,6 +224,82 @@ fn menu_size(offer: Offer) -> usize
     ensures { λ r. ⌜ r ≡ length (menuOf offer) ⌝ }
 {
     4 + bit_of(0 < offer.pcm) as usize + bit_of(offer.lapm) as usize + bit_of(offer.access) as usize
+}
+
+// The menu that says an offer, where there is room for it.
+fn put_menu(out: &mut [u8], call: u8, offer: Offer) -> Wrote
+    requires { ⌜ Says call offer ⌝ }
+    ensures { λ r. ⌜ Meets (put (roomFault (menuOf offer) (now (out .entry))) (menuOf offer) (now (out .entry))) r (now (out .exit)) ⌝ }
+{
+    let size = menu_size(offer);
+    if out.len() < size {
+        return Wrote::Refused(Refusal::ShortBuffer);
+    }
+    write_menu(out, call, offer);
+    Wrote::Count(size)
+}
+
+// Makes the CM for a function, and answers how many octets it has.
+pub fn make_cm(own: Record, function: u8, out: &mut [u8]) -> Wrote
+    ensures { λ r. ⌜ Meets (madeCm own function (now (out .entry))) r (now (out .exit)) ⌝ }
+{
+    if records::bad(own) {
+        return Wrote::Refused(Refusal::BadRecord);
+    }
+    let modes = records::in_use(own, function);
+    if modes.available {
+        return put_menu(out, category_octet(1, function), cm_offer(own, function, modes));
+    }
+    Wrote::Refused(Refusal::NoCallFunction)
+}
+
+fn can_read(octets: &[u8]) -> bool
+    ensures { λ r. ⌜ r ≡ readable (now (octets .entry)) ⌝ }
+{
+    let verdict = octets::test(Purpose::Reading, octets);
+    match verdict {
+        Verdict::Accepted => true,
+        Verdict::Refused(_) => false,
+    }
+}
+
+// In which of two menus the call function octet of a JM stands.
+pub fn call_source(own: Record, heard: &[u8], own_cm: &[u8]) -> Source
+    ensures { λ r. ⌜ r ≡ sourceOf own (now (heard .entry)) (now («own_cm» .entry)) ⌝ }
+{
+    if records::bad(own) {
+        return Source::Neither;
+    }
+    if both_of(can_read(heard), can_read(own_cm)) {
+        let modes = records::in_use(own, menus::options_in(heard));
+        if modes.available {
+            return Source::Heard;
+        }
+        return Source::Own;
+    }
+    Source::Neither
+}
+
+// The first octet, where there is one.
+fn first_of(octets: &[u8]) -> &[u8]
+    ensures { λ r. ⌜ now r ≡ take 1 (now (octets .entry)) ⌝ }
+{
+    if 0 < octets.len() {
+        return &octets[0..1];
+    }
+    &octets[0..0]
+}
+
+// The call function octet of a JM, as a part of one of two lent menus: the heard CM, or our own one for the home function.
+pub fn call_function<'a>(own: Record, heard: &'a [u8], own_cm: &'a [u8]) -> &'a [u8]
+    ensures { λ r. ⌜ now r ≡ callFunction own (now (heard .entry)) (now («own_cm» .entry)) ⌝ }
+{
+    let source = call_source(own, heard, own_cm);
+    match source {
+        Source::Heard => first_of(heard),
+        Source::Own => first_of(own_cm),
+        Source::Neither => &heard[0..0],
+    }
 }
 
 // The lowest item from 1 to 12, 0 where there is none.
