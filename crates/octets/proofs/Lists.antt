@@ -3,17 +3,17 @@
 use Prim.Native.Nat.{ℕ, zero, suc, _<_, _≤_, _+_}
 use native.Mathlib.Numerals.{add-one}
 use native.Mathlib.Omega.{arith}
-use mathlib.Core.Path.{_≡_, refl}
+use mathlib.Core.Path.{_≡_, refl, ap, _∙_}
 use mathlib.Core.Bool.{Bool, true, false}
-use mathlib.Core.List.{List, [], _∷_}
-use borrow.Author.Tests.{ltb-true, ltb-false, eq-eqb, ne-eqb}
+use mathlib.Core.List.{List, [], _∷_, _++_}
+use borrow.Author.Tests.{ltb-true, ltb-false, lt-ltb, eq-eqb, ne-eqb}
 use lib.Dec.{ltb, eqb}
 use lib.ListN.{length, drop, getD, drop-of-length-le}
 use lib.Seq.{drop-cons}
 use Rattle.laws.specs.Choice.{choose, both}
 use Rattle.octets.specs.declared.Purpose.{Purpose}
 use Rattle.octets.specs.Octets.{category, tag}
-use Rattle.octets.specs.Lists.{octetFault, firstFault, opens, listFault, untilCategory, groupEnds}
+use Rattle.octets.specs.Lists.{octetFault, before, firstFault, opens, listFault, untilCategory, groupEnds}
 
 pub opens-none : (s : List ℕ) → length s ≡ 0 → opens s ≡ false
 opens-none [] h = refl
@@ -66,3 +66,19 @@ module _ (s : List ℕ) (i : ℕ) where
   pub until-end : length s ≤ i → untilCategory (drop i s) ≡ 0
   unfolding untilCategory
   until-end h = simp (drop-of-length-le s h)
+
+-- octets behind octets: the first fault is that of the front, or of what follows
+before-by : (f g h : ℕ) (t : Bool) → eqb f 0 ≡ t → choose t (before g h) f ≡ before (choose t g f) h
+unfolding choose
+before-by f g h true e = refl
+before-by f g h false e = simp e
+
+pub fault-append : (p : Purpose) (a b : List ℕ) → firstFault p (a ++ b) ≡ before (firstFault p a) (firstFault p b)
+unfolding firstFault choose
+fault-append p [] b = refl
+fault-append p (x ∷ a) b = ap (λ (n : ℕ). before (octetFault p x) n) (fault-append p a b) ∙ before-by (octetFault p x) (firstFault p a) (firstFault p b) (eqb (octetFault p x) 0) refl
+
+-- a category octet in front ends the group before it
+pub group-starts : (b : ℕ) (bs : List ℕ) → category b ≡ true → groupEnds (b ∷ bs) 0 ≡ true
+unfolding choose
+group-starts b bs c = simp (lt-ltb 0 (suc (length bs)) (omega arith), c)

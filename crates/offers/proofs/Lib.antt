@@ -1,3 +1,5 @@
 pub mod Lowest
 pub mod Reading
 pub mod Making
+pub mod Groups
+pub mod Meaning

@@ -63,7 +63,7 @@ menu-length offer =
     omega (arith, length-append pcms (protocols ++ (accesses ++ [])), length-append protocols (accesses ++ []), length-append accesses [], one-length (ltb 0 (offer .pcm)) (categoryOctet pcmTag (offer .pcm)), one-length (offer .lapm) (categoryOctet protocol 1), one-length (offer .access) (categoryOctet access (offer .«access_options»)))
 
 -- options of an access group are options
-bit-small : (t : Bool) → bit t < 2
+pub bit-small : (t : Bool) → bit t < 2
 bit-small t = chosen (λ (n : ℕ). n < 2) t 1 0 (λ _. lit< tt) (λ _. lit< tt)
 
 access-small : (there : Bool) (caller answerer : ℕ) (digital : Bool) → caller < 2 → answerer < 2 → accessOptions there caller answerer digital < 8

@@ -1,0 +1,51 @@
+-- What the kind of an octet says of its fault.
+-- Assumes nothing.
+use Prim.Native.Nat.{ℕ, _≤_}
+use mathlib.Core.Path.{_≡_, refl, sym, ap, _∙_}
+use mathlib.Core.Bool.{Bool, true, false}
+use mathlib.Core.List.{List, [], _∷_}
+use borrow.Author.Tests.{eqb-true, eq-eqb, le-ltb}
+use lib.Dec.{eqb}
+use lib.ListN.{length}
+use Rattle.laws.specs.Choice.{choose, both, either}
+use Rattle.laws.specs.Tests.{every}
+use Rattle.laws.proofs.Chosen.{both-true}
+use Rattle.octets.specs.declared.Purpose.{Purpose}
+use Rattle.octets.specs.Octets.{b3, b4, b5, category, tag, extension}
+use Rattle.octets.specs.Lists.{before, categoryFault, octetFault, firstFault, listFault}
+
+module _ (p : Purpose) where
+  extension-fine : (b : ℕ) → extension b ≡ true → octetFault p b ≡ 0
+  unfolding choose both either
+  extension-fine b h =
+      let first = both-true _ _ h in
+      let rest = both-true _ _ (first .1) in
+      let one : b4 b ≡ 1 = eqb-true _ _ (first .0) in
+      let low : b3 b ≡ 0 = eqb-true _ _ (rest .0) in
+      let high : b5 b ≡ 0 = eqb-true _ _ (rest .1) in
+      simp (one, low, high)
+
+  pub extensions-fine : (e : List ℕ) → every extension e ≡ true → firstFault p e ≡ 0
+  unfolding firstFault every choose
+  extensions-fine [] h = refl
+  extensions-fine (b ∷ e) h = let here = both-true _ _ h in simp (extension-fine b (here .0), extensions-fine e (here .1))
+
+  category-fine : (b : ℕ) → category b ≡ true → octetFault p b ≡ categoryFault p (tag b)
+  unfolding choose both
+  category-fine b c = let none : b4 b ≡ 0 = eqb-true _ _ c in simp none
+
+  before-none : (f : ℕ) (t : Bool) → eqb f 0 ≡ t → choose t 0 f ≡ f
+  unfolding choose
+  before-none f true e = sym (eqb-true f 0 e)
+  before-none f false e = refl
+
+  -- a group is at fault where its tag is
+  pub group-fine : (b : ℕ) (e : List ℕ) → category b ≡ true → every extension e ≡ true → firstFault p (b ∷ e) ≡ categoryFault p (tag b)
+  unfolding firstFault
+  group-fine b e c h =
+      ap (λ (n : ℕ). before (octetFault p b) n) (extensions-fine e h) ∙ before-none (octetFault p b) (eqb (octetFault p b) 0) refl ∙ category-fine b c
+
+  -- a list is accepted where it is short, opens with the call function, and nothing behind that is at fault
+  pub accepted-by : (b : ℕ) (bs : List ℕ) → length (b ∷ bs) ≤ 64 → category b ≡ true → tag b ≡ 1 → firstFault p bs ≡ 0 → listFault p (b ∷ bs) ≡ 0
+  unfolding choose both
+  accepted-by b bs short c t f = simp (le-ltb 64 (length (b ∷ bs)) short, c, eq-eqb (tag b) 1 t, f)

@@ -1,0 +1,157 @@
+-- A menu that says an offer is accepted, by the reader and by the writer, and read back as that offer.
+-- Assumes nothing.
+use Prim.Native.Nat.{ℕ, _<_, _≤_, _+_, _*_, _%_}
+use native.Mathlib.Omega.{arith}
+use mathlib.Core.Path.{_≡_, refl, sym, ap, _∙_}
+use mathlib.Core.Bool.{Bool, true, false}
+use mathlib.Core.List.{List, [], _∷_, _++_}
+use borrow.Author.Tests.{le-ltb, ltb-false, eqb-true, eq-eqb, ne-eqb}
+use lib.Dec.{ltb, eqb, lit<}
+use lib.ListN.{length, drop}
+use Rattle.laws.specs.Choice.{choose, both, either}
+use Rattle.laws.specs.Tests.{every}
+use Rattle.laws.proofs.Chosen.{chosen, both-true}
+use Rattle.octets.specs.declared.Kind.the-variants.{Menu}
+use Rattle.octets.specs.declared.Purpose.{Purpose}
+use Rattle.octets.specs.declared.Purpose.the-variants.{Reading, Writing}
+use Rattle.octets.specs.Octets.{b3, b4, b5, category, tag, extension, bad}
+use Rattle.octets.specs.Lists.{before, categoryFault, octetFault, firstFault, opens, listFault}
+use Rattle.octets.proofs.Lists.{fault-append}
+use Rattle.octets.proofs.Fine.{group-fine, accepted-by}
+use Rattle.menus.specs.declared.Offer.{Offer}
+use Rattle.menus.specs.Items.{itemsOf, modulationOctet}
+use Rattle.menus.proofs.Places.{octet-0, items-back}
+use Rattle.menus.specs.Groups.{groupOf, optionsIn}
+use Rattle.menus.specs.Offer.{modulation, pcmTag, protocol, access, stands, offerOf}
+use Rattle.menus.proofs.Joined.{orElse, group-from}
+use Rattle.offers.specs.Making.{categoryOctet, oneOctet, modulationGroup, groupsOf, joined, menuOf}
+use Rattle.offers.proofs.Making.{menu-length, bit-small}
+use Rattle.offers.proofs.Groups.{Groups, category-there, tag-there, options-there, one-group, one-of-tag, modulation-group, modulation-of-tag, group-found, or-nothing}
+
+module _ (p : Purpose) (later : (t : ℕ) → (t ≡ 0 → ⊥) → categoryFault p t ≡ 0) where
+  -- each group behind the first
+  one-fine : (there : Bool) (t o : ℕ) → t < 16 → (t ≡ 0 → ⊥) → firstFault p (oneOctet there (categoryOctet t o)) ≡ 0
+  unfolding choose firstFault every
+  one-fine true t o h n = group-fine p (categoryOctet t o) [] (category-there t o h) refl ∙ ap (λ (s : ℕ). categoryFault p s) (tag-there t o h) ∙ later t n
+  one-fine false t o h n = refl
+
+  modulation-fine : (items : ℕ) → firstFault p (modulationGroup items) ≡ 0
+  unfolding modulationGroup
+  modulation-fine items =
+      let group = modulation-group items in
+      group-fine p (modulationOctet items 0) (modulationOctet items 1 ∷ modulationOctet items 2 ∷ []) (group .0) (group .1)
+      ∙ ap (λ (b : ℕ). categoryFault p (tag b)) (octet-0 items) ∙ ap (λ (s : ℕ). categoryFault p s) (tag-there 5 (items % 8) (lit< tt)) ∙ later 5 (λ z. omega (arith, z))
+
+  both-fine : (a b : List ℕ) → firstFault p a ≡ 0 → firstFault p b ≡ 0 → firstFault p (a ++ b) ≡ 0
+  unfolding choose
+  both-fine a b h k = fault-append p a b ∙ simp (h, k)
+
+  none-fine : firstFault p [] ≡ 0
+  unfolding firstFault
+  none-fine = refl
+
+  -- and so the menu
+  pub menu-accepted : (offer : Offer) → listFault p (menuOf offer) ≡ 0
+  unfolding joined
+  menu-accepted offer =
+      let pcms = oneOctet (ltb 0 (offer .pcm)) (categoryOctet pcmTag (offer .pcm)) in
+      let protocols = oneOctet (offer .lapm) (categoryOctet protocol 1) in
+      let accesses = oneOctet (offer .access) (categoryOctet access (offer .«access_options»)) in
+      let tail = both-fine pcms (protocols ++ (accesses ++ [])) (one-fine (ltb 0 (offer .pcm)) pcmTag (offer .pcm) (lit< tt) (λ z. omega (arith, z)))
+          (both-fine protocols (accesses ++ []) (one-fine (offer .lapm) protocol 1 (lit< tt) (λ z. omega (arith, z)))
+          (both-fine accesses [] (one-fine (offer .access) access (offer .«access_options») (lit< tt) (λ z. omega (arith, z))) none-fine)) in
+      accepted-by p (categoryOctet 1 (offer .function)) (modulationGroup (offer .items) ++ (pcms ++ (protocols ++ (accesses ++ []))))
+      (omega (arith, menu-length offer, bit-small (ltb 0 (offer .pcm)), bit-small (offer .lapm), bit-small (offer .access)))
+      (category-there 1 (offer .function) (lit< tt)) (tag-there 1 (offer .function) (lit< tt))
+      (both-fine (modulationGroup (offer .items)) (pcms ++ (protocols ++ (accesses ++ []))) (modulation-fine (offer .items)) tail)
+
+pub menu-readable : (offer : Offer) → listFault Reading (menuOf offer) ≡ 0
+menu-readable offer = menu-accepted Reading (λ t n. refl) offer
+
+-- "accepted by the writer"
+pub menu-writable : (offer : Offer) → listFault (Writing Menu) (menuOf offer) ≡ 0
+unfolding choose
+menu-writable offer = menu-accepted (Writing Menu) (λ t n. simp (ne-eqb t 0 n)) offer
+
+-- what can be said in a menu
+pub record Sayable (offer : Offer) : Type 0 where
+  pub function : offer .function < 8
+  pub items : offer .items < 8192
+  pub pcm : offer .pcm < 8
+  pub options : offer .«access_options» < 8
+  pub pcm-alone : offer .access ≡ false → offer .pcm ≡ 0
+  pub options-alone : offer .access ≡ false → offer .«access_options» ≡ 0
+
+module _ (offer : Offer) where
+  abbrev pcms : List ℕ
+  pcms = oneOctet (ltb 0 (offer .pcm)) (categoryOctet pcmTag (offer .pcm))
+
+  abbrev protocols : List ℕ
+  protocols = oneOctet (offer .lapm) (categoryOctet protocol 1)
+
+  abbrev accesses : List ℕ
+  accesses = oneOctet (offer .access) (categoryOctet access (offer .«access_options»))
+
+  are-groups : Groups (groupsOf offer)
+  unfolding choose
+  are-groups =
+      (one-group 1 (offer .function) (lit< tt) true,
+      (modulation-group (offer .items),
+      (one-group pcmTag (offer .pcm) (lit< tt) (ltb 0 (offer .pcm)),
+      (one-group protocol 1 (lit< tt) (offer .lapm),
+      (one-group access (offer .«access_options») (lit< tt) (offer .access), tt)))))
+
+  -- the first group of a tag in the menu
+  found : (t : ℕ) → groupOf (menuOf offer) t ≡
+      orElse (choose (eqb 1 t) (categoryOctet 1 (offer .function) ∷ []) [])
+      (orElse (choose (eqb modulation t) (modulationGroup (offer .items)) [])
+      (orElse (choose (eqb pcmTag t) pcms [])
+      (orElse (choose (eqb protocol t) protocols [])
+      (choose (eqb access t) accesses []))))
+  unfolding choose
+  found t =
+      group-from (menuOf offer) t ∙ group-found t (groupsOf offer) are-groups
+      ∙ simp (one-of-tag 1 (offer .function) (lit< tt) true t, modulation-of-tag (offer .items) t, one-of-tag pcmTag (offer .pcm) (lit< tt) (ltb 0 (offer .pcm)) t, one-of-tag protocol 1 (lit< tt) (offer .lapm) t, one-of-tag access (offer .«access_options») (lit< tt) (offer .access) t, or-nothing)
+
+-- a group of one octet, as the reader takes it
+options-of-one : (there : Bool) (t o : ℕ) → t < 16 → o < 8 → optionsIn (oneOctet there (categoryOctet t o)) ≡ choose there o 0
+unfolding choose
+options-of-one true t o h k = options-there t o h k
+options-of-one false t o h k = refl
+
+stands-one : (there : Bool) (octet : ℕ) → stands (oneOctet there octet) ≡ there
+unfolding choose
+stands-one true octet = refl
+stands-one false octet = refl
+
+-- what is 0 without the test needs no test
+chosen-alone : (t : Bool) (n : ℕ) → (t ≡ false → n ≡ 0) → choose t n 0 ≡ n
+unfolding choose
+chosen-alone true n h = refl
+chosen-alone false n h = sym (h refl)
+
+chosen-one : (t : Bool) → eqb (choose t 1 0) 1 ≡ t
+unfolding choose
+chosen-one true = refl
+chosen-one false = refl
+
+same-offer : (f g i j p q o r : ℕ) (l m a b : Bool) → f ≡ g → i ≡ j → p ≡ q → l ≡ m → a ≡ b → o ≡ r
+    → _≡_ {A = Offer} (record { function = f; items = i; pcm = p; lapm = l; access = a; «access_options» = o }) (record { function = g; items = j; pcm = q; lapm = m; access = b; «access_options» = r })
+same-offer f g i j p q o r l m a b e1 e2 e3 e4 e5 e6 = cc
+
+pub read-back : (offer : Offer) → Sayable offer → offerOf (menuOf offer) ≡ offer
+unfolding choose joined modulationGroup
+read-back offer says =
+    let group-5 : groupOf (menuOf offer) modulation ≡ modulationGroup (offer .items) = found offer modulation in
+    let group-7 : groupOf (menuOf offer) pcmTag ≡ pcms offer = found offer pcmTag ∙ or-nothing (pcms offer) in
+    let group-10 : groupOf (menuOf offer) protocol ≡ protocols offer = found offer protocol ∙ or-nothing (protocols offer) in
+    let group-13 : groupOf (menuOf offer) access ≡ accesses offer = found offer access in
+    let standing = ap stands group-13 ∙ stands-one (offer .access) (categoryOctet access (offer .«access_options»)) in
+    let counted = ap optionsIn group-7 ∙ options-of-one (ltb 0 (offer .pcm)) pcmTag (offer .pcm) (lit< tt) (says .pcm) ∙ chosen-alone (ltb 0 (offer .pcm)) (offer .pcm) (λ e. omega (arith, ltb-false 0 (offer .pcm) e)) in
+    same-offer _ _ _ _ _ _ _ _ _ _ _ _
+    (options-there 1 (offer .function) (lit< tt) (says .function))
+    (ap itemsOf group-5 ∙ items-back (offer .items) (says .items))
+    (ap (λ (b : Bool). choose b (optionsIn (groupOf (menuOf offer) pcmTag)) 0) standing ∙ ap (λ (n : ℕ). choose (offer .access) n 0) counted ∙ chosen-alone (offer .access) (offer .pcm) (says .pcm-alone))
+    (ap (λ (g : List ℕ). eqb (optionsIn g) 1) group-10 ∙ ap (λ (n : ℕ). eqb n 1) (options-of-one (offer .lapm) protocol 1 (lit< tt) (lit< tt)) ∙ chosen-one (offer .lapm))
+    standing
+    (ap optionsIn group-13 ∙ options-of-one (offer .access) access (offer .«access_options») (lit< tt) (says .options) ∙ chosen-alone (offer .access) (offer .«access_options») (says .options-alone))
