@@ -11,6 +11,7 @@ use lib.Dec.{ltb, eqb}
 use lib.ListN.{length, drop, getD, drop-of-length-le}
 use lib.Seq.{drop-cons}
 use Rattle.laws.specs.Choice.{choose, both}
+use Rattle.laws.proofs.Chosen.{chosen}
 use Rattle.octets.specs.declared.Purpose.{Purpose}
 use Rattle.octets.specs.Octets.{category, tag}
 use Rattle.octets.specs.Lists.{octetFault, before, firstFault, opens, listFault, untilCategory, groupEnds}
@@ -31,6 +32,18 @@ short-by p s false l e = ltb-false 64 (length s) l
 
 pub accepted-short : (p : Purpose) (s : List ℕ) → listFault p s ≡ 0 → length s ≤ 64
 accepted-short p s e = short-by p s (ltb 64 (length s)) refl e
+
+-- and opens with the call function
+opens-by : (p : Purpose) (s : List ℕ) (t : Bool) → opens s ≡ t → choose t (firstFault p (drop 1 s)) 5 ≡ 0 → opens s ≡ true
+unfolding choose
+opens-by p s true o e = o
+opens-by p s false o e = absurd (omega (arith, e))
+
+pub accepted-opens : (p : Purpose) (s : List ℕ) → listFault p s ≡ 0 → opens s ≡ true
+accepted-opens p s =
+    chosen (λ (n : ℕ). n ≡ 0 → opens s ≡ true) (ltb 64 (length s)) 4 (choose (opens s) (firstFault p (drop 1 s)) 5)
+    (λ _ e. absurd (omega (arith, e)))
+    (λ _ e. opens-by p s (opens s) refl e)
 
 module _ (p : Purpose) (s : List ℕ) (i : ℕ) where
   pub fault-here : i < length s → (octetFault p (getD s i 0) ≡ 0 → ⊥) → firstFault p (drop i s) ≡ octetFault p (getD s i 0)

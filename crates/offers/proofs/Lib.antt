@@ -3,3 +3,4 @@ pub mod Reading
 pub mod Making
 pub mod Groups
 pub mod Meaning
+pub mod Answering

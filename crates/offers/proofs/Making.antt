@@ -1,6 +1,6 @@
 -- The menus we make: how long they are, and that their groups are what the reader finds.
 -- Assumes nothing.
-use Prim.Native.Nat.{ℕ, zero, suc, _<_, _≤_, _+_, _*_}
+use Prim.Native.Nat.{ℕ, zero, suc, _<_, _≤_, _+_, _*_, _/_, _%_}
 use native.Mathlib.Omega.{arith}
 use mathlib.Core.Path.{_≡_, refl, sym, ap, subst, _∙_}
 use mathlib.Core.Bool.{Bool, true, false}
@@ -10,12 +10,14 @@ use lib.Dec.{ltb, lit<}
 use lib.Seq.{take-nil}
 use Rattle.laws.specs.Choice.{choose}
 use Rattle.laws.proofs.Chosen.{chosen, clash}
+use Rattle.menus.specs.Items.{inSet}
+use Rattle.records.specs.declared.Modes.{Modes}
 use Rattle.records.specs.declared.Record.{Record}
 use Rattle.records.specs.Record.{inUse, badRecord}
 use Rattle.records.proofs.Good.{good-modes}
 use Rattle.menus.specs.declared.Offer.{Offer}
 use Rattle.menus.specs.Offer.{pcmTag, protocol, access}
-use Rattle.offers.specs.Making.{categoryOctet, oneOctet, modulationGroup, groupsOf, joined, menuOf, bit, accessOptions, cmAccess, cmOffer, recordFault, functionFault}
+use Rattle.offers.specs.Making.{categoryOctet, oneOctet, modulationGroup, groupsOf, joined, menuOf, bit, accessOptions, cmAccess, cmOffer, analogue, digital, v91, paired, sharedItems, jmPcm, jmAccess, jmFunction, jmOffer, recordFault, functionFault}
 use Rattle.offers.specs.Parts.{WritesGroup, Says}
 
 pub one-there : (there : Bool) (octet : ℕ) (out : List ℕ) → there ≡ true → length (oneOctet there octet) ≤ length out → 0 < length out
@@ -70,6 +72,26 @@ access-small : (there : Bool) (caller answerer : ℕ) (digital : Bool) → calle
 access-small there caller answerer digital h k =
     chosen (λ (n : ℕ). n < 8) there (caller + 2 * answerer + 4 * bit digital) 0 (λ _. omega (arith, h, k, bit-small digital)) (λ _. lit< tt)
 
+-- and so are the PCM options of a JM
+both-small : (a b : ℕ) → a < 2 → b < 2 → a * b < 2
+both-small zero b h k = omega arith
+both-small (suc zero) b h k = omega (arith, k)
+both-small (suc (suc a)) b h k = absurd (omega (arith, h))
+
+pub paired-small : (theirs ours : ℕ) → paired theirs ours < 8
+unfolding paired
+paired-small theirs ours =
+    omega (arith, both-small (analogue ours) (digital theirs) (omega arith) (omega arith), both-small (digital ours) (analogue theirs) (omega arith) (omega arith), both-small (v91 ours) (v91 theirs) (omega arith) (omega arith))
+
+jm-pcm-small : (modes : Modes) (cm : Offer) → jmPcm modes cm < 8
+jm-pcm-small modes cm =
+    let options = paired (cm .pcm) (modes .pcm) in
+    chosen (λ (n : ℕ). n < 8) (inSet (sharedItems modes cm) 1) options (options / 4 * 4) (λ _. paired-small (cm .pcm) (modes .pcm)) (λ _. omega (arith, paired-small (cm .pcm) (modes .pcm)))
+
+-- a menu has seven octets at most
+pub menu-short : (offer : Offer) → length (menuOf offer) ≤ 7
+menu-short offer = omega (arith, menu-length offer, bit-small (ltb 0 (offer .pcm)), bit-small (offer .lapm), bit-small (offer .access))
+
 module _ (own : Record) (good : badRecord own ≡ false) where
   -- what is made from a record that is not bad can be written
   pub cm-says : (function : ℕ) → Says (categoryOctet 1 function) (cmOffer own function)
@@ -78,6 +100,14 @@ module _ (own : Record) (good : badRecord own ≡ false) where
     pcm = good-modes own good function .pcm;
     access = access-small (cmAccess own (inUse own function .pcm)) (bit (own .cellular)) 0 (own .digital) (bit-small (own .cellular)) (lit< tt);
   }
+
+  pub jm-says : (cm : Offer) → Says (categoryOctet 1 (jmFunction own cm)) (jmOffer own cm)
+  jm-says cm =
+      let modes = inUse own (cm .function) in record {
+        octet = refl;
+        pcm = jm-pcm-small modes cm;
+        access = access-small (jmAccess own cm (jmPcm modes cm)) (cm .«access_options» % 2) (bit (own .cellular)) (own .digital) (omega arith) (bit-small (own .cellular));
+      }
 
 -- refusals of a menu that is made from a record, by the tests
 pub bad-record : (own : Record) → badRecord own ≡ true → 10 ≡ recordFault own

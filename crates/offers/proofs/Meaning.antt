@@ -25,7 +25,7 @@ use Rattle.menus.specs.Groups.{groupOf, optionsIn}
 use Rattle.menus.specs.Offer.{modulation, pcmTag, protocol, access, stands, offerOf}
 use Rattle.menus.proofs.Joined.{orElse, group-from}
 use Rattle.offers.specs.Making.{categoryOctet, oneOctet, modulationGroup, groupsOf, joined, menuOf}
-use Rattle.offers.proofs.Making.{menu-length, bit-small}
+use Rattle.offers.proofs.Making.{menu-short}
 use Rattle.offers.proofs.Groups.{Groups, category-there, tag-there, options-there, one-group, one-of-tag, modulation-group, modulation-of-tag, group-found, or-nothing}
 
 module _ (p : Purpose) (later : (t : ℕ) → (t ≡ 0 → ⊥) → categoryFault p t ≡ 0) where
@@ -58,10 +58,10 @@ module _ (p : Purpose) (later : (t : ℕ) → (t ≡ 0 → ⊥) → categoryFaul
       let protocols = oneOctet (offer .lapm) (categoryOctet protocol 1) in
       let accesses = oneOctet (offer .access) (categoryOctet access (offer .«access_options»)) in
       let tail = both-fine pcms (protocols ++ (accesses ++ [])) (one-fine (ltb 0 (offer .pcm)) pcmTag (offer .pcm) (lit< tt) (λ z. omega (arith, z)))
-          (both-fine protocols (accesses ++ []) (one-fine (offer .lapm) protocol 1 (lit< tt) (λ z. omega (arith, z)))
-          (both-fine accesses [] (one-fine (offer .access) access (offer .«access_options») (lit< tt) (λ z. omega (arith, z))) none-fine)) in
+      (both-fine protocols (accesses ++ []) (one-fine (offer .lapm) protocol 1 (lit< tt) (λ z. omega (arith, z)))
+      (both-fine accesses [] (one-fine (offer .access) access (offer .«access_options») (lit< tt) (λ z. omega (arith, z))) none-fine)) in
       accepted-by p (categoryOctet 1 (offer .function)) (modulationGroup (offer .items) ++ (pcms ++ (protocols ++ (accesses ++ []))))
-      (omega (arith, menu-length offer, bit-small (ltb 0 (offer .pcm)), bit-small (offer .lapm), bit-small (offer .access)))
+      (omega (arith, menu-short offer))
       (category-there 1 (offer .function) (lit< tt)) (tag-there 1 (offer .function) (lit< tt))
       (both-fine (modulationGroup (offer .items)) (pcms ++ (protocols ++ (accesses ++ []))) (modulation-fine (offer .items)) tail)
 
@@ -94,12 +94,19 @@ module _ (offer : Offer) where
 
   are-groups : Groups (groupsOf offer)
   unfolding choose
-  are-groups =
-      (one-group 1 (offer .function) (lit< tt) true,
-      (modulation-group (offer .items),
-      (one-group pcmTag (offer .pcm) (lit< tt) (ltb 0 (offer .pcm)),
-      (one-group protocol 1 (lit< tt) (offer .lapm),
-      (one-group access (offer .«access_options») (lit< tt) (offer .access), tt)))))
+  are-groups = (
+    one-group 1 (offer .function) (lit< tt) true,
+    (
+      modulation-group (offer .items),
+      (
+        one-group pcmTag (offer .pcm) (lit< tt) (ltb 0 (offer .pcm)),
+        (
+          one-group protocol 1 (lit< tt) (offer .lapm),
+          (one-group access (offer .«access_options») (lit< tt) (offer .access), tt),
+        ),
+      ),
+    ),
+  )
 
   -- the first group of a tag in the menu
   found : (t : ℕ) → groupOf (menuOf offer) t ≡

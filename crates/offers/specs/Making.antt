@@ -127,6 +127,10 @@ jmOfferOf own cm modes = record {
 abbrev pub jmOffer : Record → Offer → Offer
 jmOffer own cm = jmOfferOf own cm (inUse own (cm .function))
 
+-- "the same function", or "the home function"
+abbrev pub jmFunction : Record → Offer → ℕ
+jmFunction own cm = jmOffer own cm .function
+
 -- reading the octets gives no refusal
 abbrev pub readable : List ℕ → Bool
 readable octets = eqb (listFault Reading octets) 0

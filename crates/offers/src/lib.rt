@@ -18,8 +18,7 @@ ghost use Rattle.laws.specs.Front.{front};
 ghost use Rattle.octets.specs.Lent.{roomFault, put, Meets};
 ghost use Rattle.menus.specs.Offer.{offerOf};
 ghost use Rattle.records.specs.Record.{badRecord};
-ghost use Rattle.offers.specs.Making.{categoryOctet, oneOctet, modulationGroup, groupsOf, menuOf, bit, withItem0, accessOptions, cmOfferOf, cmOffer, paired, withItem1, jmOfferOf, jmOffer, readable, sourceOf, callFunction, madeCm, madeJm};
-
+ghost use Rattle.offers.specs.Making.{categoryOctet, oneOctet, modulationGroup, groupsOf, menuOf, bit, withItem0, accessOptions, cmOfferOf, cmOffer, paired, withItem1, jmFunction, jmOfferOf, jmOffer, readable, sourceOf, callFunction, madeCm, madeJm};
 ghost use Rattle.offers.specs.Parts.{WritesGroup, Says};
 ghost use Rattle.offers.specs.Choosing.{lowest, saysChoice, pcmChoice, itemChoice, chosenFrom, choiceFor, choiceOf};
 
@@ -248,7 +247,11 @@ pub fn make_cm(own: Record, function: u8, out: &mut [u8]) -> Wrote
     }
     let modes = records::in_use(own, function);
     if modes.available {
-        return put_menu(out, category_octet(1, function), cm_offer(own, function, modes));
+        return put_menu(
+            out,
+            category_octet(1, function),
+            cm_offer(own, function, modes),
+        );
     }
     Wrote::Refused(Refusal::NoCallFunction)
 }
@@ -299,6 +302,37 @@ pub fn call_function<'a>(own: Record, heard: &'a [u8], own_cm: &'a [u8]) -> &'a 
         Source::Heard => first_of(heard),
         Source::Own => first_of(own_cm),
         Source::Neither => &heard[0..0],
+    }
+}
+
+// The call function octet of the JM for a heard CM: our own CM for the home function is made to find it there.
+fn answer_octet(own: Record, heard: &[u8]) -> u8
+    requires { ⌜ (badRecord own ≡ false) × (readable (now heard) ≡ true) ⌝ }
+    ensures { λ r. ⌜ r ≡ categoryOctet 1 (jmFunction own (offerOf (now (heard .entry)))) ⌝ }
+{
+    let home = own.home;
+    let offer = cm_offer(own, home, records::in_use(own, home));
+    let mut menu = [0u8; 7];
+    write_menu(&mut menu, category_octet(1, home), offer);
+    let size = menu_size(offer);
+    let part = call_function(own, heard, &menu[0..size]);
+    part[0]
+}
+
+// Makes the JM for a heard CM, and answers how many octets it has.
+pub fn make_jm(own: Record, heard: &[u8], out: &mut [u8]) -> Wrote
+    ensures { λ r. ⌜ Meets (madeJm own (now (heard .entry)) (now (out .entry))) r (now (out .exit)) ⌝ }
+{
+    if records::bad(own) {
+        return Wrote::Refused(Refusal::BadRecord);
+    }
+    let menu = menus::read(heard);
+    match menu {
+        Menu::Refused(r) => Wrote::Refused(r),
+        Menu::Offers(theirs) => {
+            let modes = records::in_use(own, theirs.function);
+            put_menu(out, answer_octet(own, heard), jm_offer(own, theirs, modes))
+        }
     }
 }
 
