@@ -16,7 +16,7 @@ use Rattle.octets.proofs.Lists.{accepted-opens}
 use Rattle.menus.specs.Groups.{optionsIn}
 use Rattle.menus.specs.Offer.{offerOf}
 use Rattle.records.specs.declared.Record.{Record}
-use Rattle.records.specs.Record.{inUse, badRecord}
+use Rattle.records.specs.Record.{flag, inUse, badRecord}
 use Rattle.offers.specs.declared.Source.the-variants.{Heard, Own}
 use Rattle.offers.specs.Making.{categoryOctet, joined, menuOf, cmOffer, jmFunction, readable, sourceOf, firstOctetOf, callFunction}
 use Rattle.offers.proofs.Meaning.{menu-readable}
@@ -42,4 +42,4 @@ module _ (own : Record) (heard : List ℕ) (good : badRecord own ≡ false) (rea
 
   pub call-octet : callFunction own heard (menuOf (cmOffer own (own .home))) ≡ categoryOctet 1 (jmFunction own (offerOf heard)) ∷ []
   unfolding sourceOf choose both
-  call-octet = simp (good, read, eq-eqb _ _ (menu-readable (cmOffer own (own .home)))) (by-function (inUse own (optionsIn heard) .available))
+  call-octet = simp (good, read, eq-eqb _ _ (menu-readable (cmOffer own (own .home)))) (by-function (flag (inUse own (optionsIn heard) .available)))

@@ -6,6 +6,7 @@ use mathlib.Core.Path.{_≡_, refl, sym, ap, subst, _∙_}
 use mathlib.Core.Bool.{Bool, true, false}
 use mathlib.Core.List.{List, [], _∷_, _++_, append-nil, append-assoc}
 use lib.ListN.{length, take, getD, length-append}
+use borrow.Author.Tests.{ne-eqb}
 use lib.Dec.{ltb, lit<}
 use lib.Seq.{take-nil}
 use Rattle.laws.specs.Choice.{choose}
@@ -13,7 +14,7 @@ use Rattle.laws.proofs.Chosen.{chosen, clash}
 use Rattle.menus.specs.Items.{inSet}
 use Rattle.records.specs.declared.Modes.{Modes}
 use Rattle.records.specs.declared.Record.{Record}
-use Rattle.records.specs.Record.{inUse, badRecord}
+use Rattle.records.specs.Record.{flag, inUse, badRecord}
 use Rattle.records.proofs.Good.{good-modes}
 use Rattle.menus.specs.declared.Offer.{Offer}
 use Rattle.menus.specs.Offer.{pcmTag, protocol, access}
@@ -68,9 +69,9 @@ menu-length offer =
 pub bit-small : (t : Bool) → bit t < 2
 bit-small t = chosen (λ (n : ℕ). n < 2) t 1 0 (λ _. lit< tt) (λ _. lit< tt)
 
-access-small : (there : Bool) (caller answerer : ℕ) (digital : Bool) → caller < 2 → answerer < 2 → accessOptions there caller answerer digital < 8
-access-small there caller answerer digital h k =
-    chosen (λ (n : ℕ). n < 8) there (caller + 2 * answerer + 4 * bit digital) 0 (λ _. omega (arith, h, k, bit-small digital)) (λ _. lit< tt)
+access-small : (there : Bool) (caller answerer digital : ℕ) → caller < 2 → answerer < 2 → digital < 2 → accessOptions there caller answerer digital < 8
+access-small there caller answerer digital h k l =
+    chosen (λ (n : ℕ). n < 8) there (caller + 2 * answerer + 4 * digital) 0 (λ _. omega (arith, h, k, l)) (λ _. lit< tt)
 
 -- and so are the PCM options of a JM
 both-small : (a b : ℕ) → a < 2 → b < 2 → a * b < 2
@@ -98,7 +99,7 @@ module _ (own : Record) (good : badRecord own ≡ false) where
   cm-says function = record {
     octet = refl;
     pcm = good-modes own good function .pcm;
-    access = access-small (cmAccess own (inUse own function .pcm)) (bit (own .cellular)) 0 (own .digital) (bit-small (own .cellular)) (lit< tt);
+    access = access-small (cmAccess own (inUse own function .pcm)) (bit (flag (own .cellular))) 0 (bit (flag (own .digital))) (bit-small (flag (own .cellular))) (lit< tt) (bit-small (flag (own .digital)));
   }
 
   pub jm-says : (cm : Offer) → Says (categoryOctet 1 (jmFunction own cm)) (jmOffer own cm)
@@ -106,7 +107,7 @@ module _ (own : Record) (good : badRecord own ≡ false) where
       let modes = inUse own (cm .function) in record {
         octet = refl;
         pcm = jm-pcm-small modes cm;
-        access = access-small (jmAccess own cm (jmPcm modes cm)) (cm .«access_options» % 2) (bit (own .cellular)) (own .digital) (omega arith) (bit-small (own .cellular));
+        access = access-small (jmAccess own cm (jmPcm modes cm)) (cm .«access_options» % 2) (bit (flag (own .cellular))) (bit (flag (own .digital))) (omega arith) (bit-small (flag (own .cellular))) (bit-small (flag (own .digital)));
       }
 
 -- refusals of a menu that is made from a record, by the tests
@@ -118,13 +119,13 @@ pub good-record : (own : Record) → badRecord own ≡ false → recordFault own
 unfolding choose
 good-record own t = simp t
 
-pub function-there : (own : Record) (function : ℕ) → inUse own function .available ≡ true → functionFault own function ≡ 0
+pub function-there : (own : Record) (function : ℕ) → inUse own function .available ≡ 1 → functionFault own function ≡ 0
 unfolding choose
 function-there own function t = simp t
 
-pub function-missing : (own : Record) (function : ℕ) → inUse own function .available ≡ false → 5 ≡ functionFault own function
+pub function-missing : (own : Record) (function : ℕ) → (inUse own function .available ≡ 1 → ⊥) → 5 ≡ functionFault own function
 unfolding choose
-function-missing own function t = simp t
+function-missing own function t = simp (ne-eqb (inUse own function .available) 1 t)
 
 -- no octets, no first one
 pub no-first : (octets : List ℕ) → length octets ≤ 0 → [] ≡ take 1 octets

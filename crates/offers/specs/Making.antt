@@ -15,7 +15,7 @@ use Rattle.menus.specs.Groups.{optionsIn}
 use Rattle.menus.specs.Offer.{pcmTag, protocol, access, offerOf}
 use Rattle.records.specs.declared.Modes.{Modes}
 use Rattle.records.specs.declared.Record.{Record}
-use Rattle.records.specs.Record.{inUse, badRecord}
+use Rattle.records.specs.Record.{flag, inUse, badRecord}
 use Rattle.offers.specs.declared.Source.{Source}
 use Rattle.offers.specs.declared.Source.the-variants.{Neither, Heard, Own}
 
@@ -59,12 +59,12 @@ abbrev pub withItem0 : Bool → ℕ → ℕ
 withItem0 there items = items / 2 * 2 + bit there
 
 -- options of an access group, 0 where there is none: b5 caller cellular, b6 answerer cellular, b7 digital network
-abbrev pub accessOptions : Bool → ℕ → ℕ → Bool → ℕ
-accessOptions there caller answerer digital = choose there (caller + 2 * answerer + 4 * bit digital) 0
+abbrev pub accessOptions : Bool → ℕ → ℕ → ℕ → ℕ
+accessOptions there caller answerer digital = choose there (caller + 2 * answerer + 4 * digital) 0
 
 -- "access if wanted or PCM is there"
 abbrev pub cmAccess : Record → ℕ → Bool
-cmAccess own pcm = either (own .access) (ltb 0 pcm)
+cmAccess own pcm = either (flag (own .access)) (ltb 0 pcm)
 
 -- "CM for an available function: its items; PCM if its options aren't 0, with item 0 then set; LAPM if wanted; access if wanted or PCM is
 -- there, b5 cellular, b6 0, b7 digital.": for modes in use
@@ -73,9 +73,9 @@ cmOfferOf own function modes = record {
   function = function;
   items = withItem0 (ltb 0 (modes .pcm)) (modes .items);
   pcm = modes .pcm;
-  lapm = own .lapm;
+  lapm = flag (own .lapm);
   access = cmAccess own (modes .pcm);
-  «access_options» = accessOptions (cmAccess own (modes .pcm)) (bit (own .cellular)) 0 (own .digital);
+  «access_options» = accessOptions (cmAccess own (modes .pcm)) (bit (flag (own .cellular))) 0 (bit (flag (own .digital)));
 }
 
 abbrev pub cmOffer : Record → ℕ → Offer
@@ -109,18 +109,18 @@ jmPcm modes cm = withItem1 (inSet (sharedItems modes cm) 1) (paired (cm .pcm) (m
 
 -- "Access if wanted, if their b5 is 1, or with PCM"
 abbrev pub jmAccess : Record → Offer → ℕ → Bool
-jmAccess own cm pcm = either (own .access) (either (eqb (cm .«access_options» % 2) 1) (ltb 0 pcm))
+jmAccess own cm pcm = either (flag (own .access)) (either (eqb (cm .«access_options» % 2) 1) (ltb 0 pcm))
 
 -- "Function available: the same function, items in both. .. PCM is there when one of these is 1; item 0 goes with it. Function not available:
 -- the home function, no items, no PCM. .. LAPM if theirs says so and ours wants it. .. b5 as theirs (0 if absent), b6 cellular, b7 digital."
 abbrev pub jmOfferOf : Record → Offer → Modes → Offer
 jmOfferOf own cm modes = record {
-  function = choose (modes .available) (cm .function) (own .home);
+  function = choose (flag (modes .available)) (cm .function) (own .home);
   items = withItem0 (ltb 0 (jmPcm modes cm)) (sharedItems modes cm);
   pcm = jmPcm modes cm;
-  lapm = both (cm .lapm) (own .lapm);
+  lapm = both (cm .lapm) (flag (own .lapm));
   access = jmAccess own cm (jmPcm modes cm);
-  «access_options» = accessOptions (jmAccess own cm (jmPcm modes cm)) (cm .«access_options» % 2) (bit (own .cellular)) (own .digital);
+  «access_options» = accessOptions (jmAccess own cm (jmPcm modes cm)) (cm .«access_options» % 2) (bit (flag (own .cellular))) (bit (flag (own .digital)));
 }
 
 -- the modes of a function that is not available are none
@@ -141,7 +141,7 @@ unfoldable pub sourceOf : Record → List ℕ → List ℕ → Source
 sourceOf own heard ownCm =
     choose (badRecord own) Neither
     (choose (both (readable heard) (readable ownCm))
-    (choose (inUse own (optionsIn heard) .available) Heard Own)
+    (choose (flag (inUse own (optionsIn heard) .available)) Heard Own)
     Neither)
 
 abbrev pub firstOctetOf : Source → List ℕ → List ℕ → List ℕ
@@ -159,7 +159,7 @@ recordFault own = choose (badRecord own) 10 0
 
 -- 5, "a CM asked for a function not available (0 and from 7 up too)", or 0
 abbrev pub functionFault : Record → ℕ → ℕ
-functionFault own function = choose (inUse own function .available) 0 5
+functionFault own function = choose (flag (inUse own function .available)) 0 5
 
 -- "menus from records 10, then the heard CM's refusals or 5, then 6"
 abbrev pub madeCm : Record → ℕ → List ℕ → Outcome

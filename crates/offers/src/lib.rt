@@ -78,12 +78,12 @@ fn with_item_0(there: bool, items: u16) -> u16
     items / 2 * 2 + bit_of(there) as u16
 }
 
-fn access_options(there: bool, caller: u8, answerer: u8, digital: bool) -> u8
-    requires { ⌜ (caller < 2) × (answerer < 2) ⌝ }
+fn access_options(there: bool, caller: u8, answerer: u8, digital: u8) -> u8
+    requires { ⌜ (caller < 2) × (answerer < 2) × (digital < 2) ⌝ }
     ensures { λ r. ⌜ r ≡ accessOptions there caller answerer digital ⌝ }
 {
     if there {
-        return caller + 2 * answerer + 4 * bit_of(digital);
+        return caller + 2 * answerer + 4 * digital;
     }
     0
 }
@@ -93,14 +93,14 @@ fn cm_offer(own: Record, function: u8, modes: Modes) -> Offer
     ensures { λ r. ⌜ r ≡ cmOfferOf own function modes ⌝ }
 {
     let pcm = modes.pcm;
-    let there = either_of(own.access, 0 < pcm);
+    let there = either_of(own.access == 1, 0 < pcm);
     Offer {
         function: function,
         items: with_item_0(0 < pcm, modes.items),
         pcm: pcm,
-        lapm: own.lapm,
+        lapm: own.lapm == 1,
         access: there,
-        access_options: access_options(there, bit_of(own.cellular), 0, own.digital),
+        access_options: access_options(there, bit_of(own.cellular == 1), 0, bit_of(own.digital == 1)),
     }
 }
 
@@ -153,14 +153,14 @@ fn jm_offer(own: Record, cm: Offer, modes: Modes) -> Offer
         paired_options(cm.pcm, modes.pcm),
     );
     let caller = cm.access_options % 2;
-    let there = either_of(own.access, either_of(caller == 1, 0 < pcm));
+    let there = either_of(own.access == 1, either_of(caller == 1, 0 < pcm));
     Offer {
-        function: answered_function(modes.available, cm.function, own.home),
+        function: answered_function(modes.available == 1, cm.function, own.home),
         items: with_item_0(0 < pcm, shared),
         pcm: pcm,
-        lapm: both_of(cm.lapm, own.lapm),
+        lapm: both_of(cm.lapm, own.lapm == 1),
         access: there,
-        access_options: access_options(there, caller, bit_of(own.cellular), own.digital),
+        access_options: access_options(there, caller, bit_of(own.cellular == 1), bit_of(own.digital == 1)),
     }
 }
 
@@ -246,7 +246,7 @@ pub fn make_cm(own: Record, function: u8, out: &mut [u8]) -> Wrote
         return Wrote::Refused(Refusal::BadRecord);
     }
     let modes = records::in_use(own, function);
-    if modes.available {
+    if modes.available == 1 {
         return put_menu(
             out,
             category_octet(1, function),
@@ -275,7 +275,7 @@ pub fn call_source(own: Record, heard: &[u8], own_cm: &[u8]) -> Source
     }
     if both_of(can_read(heard), can_read(own_cm)) {
         let modes = records::in_use(own, menus::options_in(heard));
-        if modes.available {
+        if modes.available == 1 {
             return Source::Heard;
         }
         return Source::Own;

@@ -6,12 +6,13 @@ use native.Mathlib.Omega.{arith}
 use mathlib.Core.Path.{_≡_, sym}
 use mathlib.Core.Bool.{true, false}
 use mathlib.Core.List.{List}
+use borrow.Author.Tests.{ne-eqb}
 use lib.ListN.{length, drop, getD, List·getD-eq-default}
 use lib.Seq.{drop-cons}
 use Rattle.laws.specs.Choice.{choose, either}
 use Rattle.records.specs.declared.Modes.{Modes}
 use Rattle.records.specs.declared.Record.{Record}
-use Rattle.records.specs.Record.{noModes, whereAvailable, modesAt, inUse, badModes, anyBad, badRecord}
+use Rattle.records.specs.Record.{noModes, whereAvailable, modesAt, inUse, badModes, anyBad, badFlags, badRecord}
 
 -- a function from 1 up stands one before its number
 pub modes-at : (functions : List Modes) (n : ℕ) → 1 ≤ n → modesAt functions n ≡ whereAvailable (getD functions (n - 1) noModes)
@@ -33,12 +34,16 @@ module _ (functions : List Modes) (i : ℕ) (d : Modes) (h : i < length function
   unfolding either anyBad
   bad-on t = simp (drop-cons functions i d h, t, add-one)
 
--- the test of the home function decides, or leaves it to all functions
+-- the test of the home function decides, then that of the flags, or it is left to all functions
 module _ (rec : Record) (home : Modes) (same : home ≡ inUse rec (rec .home)) where
-  pub home-there : home .available ≡ true → badRecord rec ≡ anyBad (rec .functions)
+  pub home-missing : (home .available ≡ 1 → ⊥) → badRecord rec ≡ true
   unfolding choose badRecord
-  home-there t = simp (sym same, t)
+  home-missing n = simp (sym same, ne-eqb (home .available) 1 n)
 
-  pub home-missing : home .available ≡ false → badRecord rec ≡ true
-  unfolding choose badRecord
-  home-missing t = simp (sym same, t)
+  pub flags-bad : home .available ≡ 1 → badFlags rec ≡ true → badRecord rec ≡ true
+  unfolding choose either badRecord
+  flags-bad h t = simp (sym same, h, t)
+
+  pub functions-left : home .available ≡ 1 → badFlags rec ≡ false → badRecord rec ≡ anyBad (rec .functions)
+  unfolding choose either badRecord
+  functions-left h t = simp (sym same, h, t)

@@ -12,7 +12,7 @@ use Rattle.laws.specs.Choice.{choose, either}
 use Rattle.laws.proofs.Chosen.{chosen, either-false, clash}
 use Rattle.records.specs.declared.Modes.{Modes}
 use Rattle.records.specs.declared.Record.{Record}
-use Rattle.records.specs.Record.{noModes, modesAt, inUse, lacksItem1, badModes, anyBad, badRecord}
+use Rattle.records.specs.Record.{flag, noModes, modesAt, inUse, lacksItem1, badModes, anyBad, badRecord}
 use Rattle.records.proofs.Functions.{modes-past}
 
 -- no function of it is bad
@@ -25,7 +25,7 @@ each-good (modes ∷ rest) (suc n) h = each-good rest n (either-false (badModes 
 used-good : (functions : List Modes) (f : ℕ) → anyBad functions ≡ false → badModes (modesAt functions f) ≡ false
 unfolding modesAt choose either
 used-good functions zero h = refl
-used-good functions (suc n) h = chosen (λ (m : Modes). badModes m ≡ false) (getD functions n noModes .available) _ _ (λ _. each-good functions n h) (λ _. refl)
+used-good functions (suc n) h = chosen (λ (m : Modes). badModes m ≡ false) (flag (getD functions n noModes .available)) _ _ (λ _. each-good functions n h) (λ _. refl)
 
 item-1-there : (pcm items : ℕ) → lacksItem1 pcm items ≡ false → (pcm % 4 ≡ 0 → ⊥) → eqb (items / 2 % 2) 0 ≡ false
 item-1-there pcm items h some = chosen (λ (b : Bool). b ≡ false → eqb (items / 2 % 2) 0 ≡ false) (eqb (pcm % 4) 0) _ _ (λ t _. absurd (some (eqb-true _ _ t))) (λ _ e. e) h
@@ -38,14 +38,16 @@ pub record Good (modes : Modes) : Type 0 where
   pub item-1 : (modes .pcm % 4 ≡ 0 → ⊥) → modes .items / 2 % 2 ≡ 1
 
 module _ (rec : Record) (good : badRecord rec ≡ false) where
-  pub good-home : (inUse rec (rec .home) .available ≡ true) × (anyBad (rec .functions) ≡ false)
+  pub good-home : (inUse rec (rec .home) .available ≡ 1) × (anyBad (rec .functions) ≡ false)
   unfolding badRecord
-  good-home = chosen (λ (b : Bool). b ≡ false → (inUse rec (rec .home) .available ≡ true) × (anyBad (rec .functions) ≡ false)) _ _ _ (λ t h. (t, h)) (λ _ h. clash h) good
+  good-home =
+      chosen (λ (b : Bool). b ≡ false → (inUse rec (rec .home) .available ≡ 1) × (anyBad (rec .functions) ≡ false)) _ _ _
+      (λ t h. (eqb-true _ _ t, either-false _ _ h .1)) (λ _ h. clash h) good
 
   pub good-modes : (f : ℕ) → Good (inUse rec f)
   good-modes f =
       let used = inUse rec f in
-      let all = either-false _ _ (used-good (rec .functions) f (good-home .1)) in
+      let all = either-false _ _ (either-false _ _ (used-good (rec .functions) f (good-home .1)) .1) in
       let outside = either-false _ _ (all .0) in
       let pcm = either-false _ _ (all .1) in
       record {
@@ -56,9 +58,9 @@ module _ (rec : Record) (good : badRecord rec ≡ false) where
       }
 
 -- only a function of the record is available
-within-by : (functions : List Modes) (f : ℕ) (past : Bool) → ltb (length functions) f ≡ past → modesAt functions f .available ≡ true → f ≤ length functions
-within-by functions f true p h = let none = modes-past functions f (ltb-true _ _ p) in clash (sym h ∙ ap (λ (m : Modes). m .available) none)
+within-by : (functions : List Modes) (f : ℕ) (past : Bool) → ltb (length functions) f ≡ past → modesAt functions f .available ≡ 1 → f ≤ length functions
+within-by functions f true p h = let none = modes-past functions f (ltb-true _ _ p) in absurd (omega (arith, h, ap (λ (m : Modes). m .available) none))
 within-by functions f false p h = ltb-false _ _ p
 
-pub available-within : (functions : List Modes) (f : ℕ) → modesAt functions f .available ≡ true → f ≤ length functions
+pub available-within : (functions : List Modes) (f : ℕ) → modesAt functions f .available ≡ 1 → f ≤ length functions
 available-within functions f h = within-by functions f (ltb (length functions) f) refl h

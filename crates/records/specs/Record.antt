@@ -10,11 +10,19 @@ use Rattle.records.specs.declared.Record.{Record}
 
 -- "no modes and no PCM"
 abbrev pub noModes : Modes
-noModes = record { available = false; pcm = 0; items = 0 }
+noModes = record { available = 0; pcm = 0; items = 0 }
+
+-- "available or not", wanted or not: 1 for yes, 0 for no
+abbrev pub flag : ℕ → Bool
+flag n = eqb n 1
+
+-- a number that is neither
+abbrev pub noFlag : ℕ → Bool
+noFlag n = ltb 1 n
 
 -- "one not available has no modes and no PCM, even where they are filled in"
 abbrev pub whereAvailable : Modes → Modes
-whereAvailable modes = choose (modes .available) modes noModes
+whereAvailable modes = choose (flag (modes .available)) modes noModes
 
 -- functions are counted from 1; a number that is no function has no modes
 unfoldable pub modesAt : List Modes → ℕ → Modes
@@ -35,13 +43,17 @@ lacksItem1 pcm items = choose (eqb (pcm % 4) 0) false (eqb (items / 2 % 2) 0)
 
 -- one function's share of what makes a record bad
 abbrev pub badModes : Modes → Bool
-badModes modes = either (outside (modes .items)) (either (ltb 7 (modes .pcm)) (lacksItem1 (modes .pcm) (modes .items)))
+badModes modes = either (noFlag (modes .available)) (either (outside (modes .items)) (either (ltb 7 (modes .pcm)) (lacksItem1 (modes .pcm) (modes .items))))
 
 -- "All six functions are tested"
 unfoldable pub anyBad : List Modes → Bool
 anyBad [] = false
 anyBad (modes ∷ rest) = either (badModes modes) (anyBad rest)
 
+-- what is neither wanted nor not, neither cellular nor not, neither digital nor not
+abbrev pub badFlags : Record → Bool
+badFlags rec = either (noFlag (rec .lapm)) (either (noFlag (rec .access)) (either (noFlag (rec .cellular)) (noFlag (rec .digital))))
+
 -- "It is bad (10) if the home function isn't an available one, .."
 unfoldable pub badRecord : Record → Bool
-badRecord rec = choose (inUse rec (rec .home) .available) (anyBad (rec .functions)) true
+badRecord rec = choose (flag (inUse rec (rec .home) .available)) (either (badFlags rec) (anyBad (rec .functions))) true

@@ -1,5 +1,5 @@
-use borrow.Author.Needs.{needs}
 use Rattle.laws.specs.Choice.{choose}
+use borrow.Author.Needs.{needs}
 use Rattle.offers.proofs.access_options.Statement.{statement}
 use Rattle.offers.proofs.access_options.Tie as tie
 
@@ -9,9 +9,6 @@ mul-result c = search needs
 add-result : tie.Need-add-result
 add-result c = search needs
 
-bit-of-requires : tie.Need-bit-of-requires
-bit-of-requires c κs = search needs
-
 mul-result-2 : tie.Need-mul-result-2
 mul-result-2 c = search needs
 
@@ -20,7 +17,7 @@ add-result-2 c = search needs
 
 returns : tie.Need-returns
 unfolding choose
-returns c = simp (c .bit-of .ensures .0, c .before .if1 .taken)
+returns c = simp (c .if1 .taken)
 
 returns-2 : tie.Need-returns-2
 unfolding choose
@@ -28,5 +25,4 @@ returns-2 c = simp (c .if1 .left)
 
 pub access-options-spec : {M : Type 1} → statement M
 access-options-spec =
-    tie.close
-    (tie.spec mul-result add-result bit-of-requires mul-result-2 add-result-2 returns returns-2)
+    tie.close (tie.spec mul-result add-result mul-result-2 add-result-2 returns returns-2)

@@ -1,3 +1,4 @@
+use borrow.Author.Tests.{eq-eqb, ne-eqb}
 use borrow.Author.Needs.{needs}
 use Rattle.laws.specs.Choice.{choose}
 use Rattle.offers.specs.Making.{sourceOf}
@@ -28,11 +29,11 @@ in-use-requires c κs = search needs
 
 returns-2 : tie.Need-returns-2
 unfolding sourceOf choose
-returns-2 c = simp (c .before .before .before .before .before .before .before .if1 .left, ← c .before .before .before .before .before .before .before .before .bad .ensures, c .if3 .taken, ← c .before .in-use .ensures, ← c .before .before .options-in .ensures, c .before .before .before .if2 .taken, ← c .before .before .before .before .both-of .ensures, ← c .before .before .before .before .before .can-read2 .ensures, ← c .before .before .before .before .before .before .can-read .ensures)
+returns-2 c = simp (c .before .before .before .before .before .before .before .before .if1 .left, ← c .before .before .before .before .before .before .before .before .before .bad .ensures, eq-eqb _ 1 (c .if3 .taken), ← c .before .before .in-use .ensures, ← c .before .before .before .options-in .ensures, c .before .before .before .before .if2 .taken, ← c .before .before .before .before .before .both-of .ensures, ← c .before .before .before .before .before .before .can-read2 .ensures, ← c .before .before .before .before .before .before .before .can-read .ensures)
 
 returns-3 : tie.Need-returns-3
 unfolding sourceOf choose
-returns-3 c = simp (c .before .before .before .before .before .before .before .if1 .left, ← c .before .before .before .before .before .before .before .before .bad .ensures, c .if3 .left, ← c .before .in-use .ensures, ← c .before .before .options-in .ensures, c .before .before .before .if2 .taken, ← c .before .before .before .before .both-of .ensures, ← c .before .before .before .before .before .can-read2 .ensures, ← c .before .before .before .before .before .before .can-read .ensures)
+returns-3 c = simp (c .before .before .before .before .before .before .before .before .if1 .left, ← c .before .before .before .before .before .before .before .before .before .bad .ensures, ne-eqb _ 1 (c .if3 .left), ← c .before .before .in-use .ensures, ← c .before .before .before .options-in .ensures, c .before .before .before .before .if2 .taken, ← c .before .before .before .before .before .both-of .ensures, ← c .before .before .before .before .before .before .can-read2 .ensures, ← c .before .before .before .before .before .before .before .can-read .ensures)
 
 returns-4 : tie.Need-returns-4
 unfolding sourceOf choose

@@ -11,11 +11,14 @@ with-item-0-requires c κs = search needs
 bit-of-requires : tie.Need-bit-of-requires
 bit-of-requires c κs = search needs
 
+bit-of-requires-2 : tie.Need-bit-of-requires-2
+bit-of-requires-2 c κs = search needs
+
 access-options-requires : tie.Need-access-options-requires
 access-options-requires c κs = search needs
 
 returns : tie.Need-returns
-returns c = simp (c .access-options .ensures, c .before .bit-of .ensures .0, c .before .before .with-item-0 .ensures, c .before .before .before .either-of .ensures)
+returns c = simp (c .access-options .ensures, c .before .bit-of2 .ensures .0, c .before .before .before .bit-of .ensures .0, c .before .before .before .before .before .before .with-item-0 .ensures, c .before .before .before .before .before .before .before .either-of .ensures)
 
 pub cm-offer-spec : {M : Type 1} → statement M
 cm-offer-spec =
@@ -24,5 +27,6 @@ cm-offer-spec =
     either-of-requires
     with-item-0-requires
     bit-of-requires
+    bit-of-requires-2
     access-options-requires
     returns)

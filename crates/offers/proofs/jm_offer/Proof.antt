@@ -29,11 +29,14 @@ both-of-requires c κs = search needs
 bit-of-requires : tie.Need-bit-of-requires
 bit-of-requires c κs = search needs
 
+bit-of-requires-2 : tie.Need-bit-of-requires-2
+bit-of-requires-2 c κs = search needs
+
 access-options-requires : tie.Need-access-options-requires
 access-options-requires c κs = search needs
 
 returns : tie.Need-returns
-returns c = simp (c .access-options .ensures, c .before .bit-of .ensures .0, c .before .before .both-of .ensures, c .before .before .before .with-item-0 .ensures, c .before .before .before .before .answered-function .ensures, c .before .before .before .before .before .either-of2 .ensures, c .before .before .before .before .before .before .either-of .ensures, c .before .before .before .before .before .before .before .before .with-item-1 .ensures, c .before .before .before .before .before .before .before .before .before .paired-options .ensures, c .before .before .before .before .before .before .before .before .before .before .in-set .ensures)
+returns c = simp (c .access-options .ensures, c .before .bit-of2 .ensures .0, c .before .before .before .bit-of .ensures .0, c .before .before .before .before .before .both-of .ensures, c .before .before .before .before .before .before .before .with-item-0 .ensures, c .before .before .before .before .before .before .before .before .answered-function .ensures, c .before .before .before .before .before .before .before .before .before .before .either-of2 .ensures, c .before .before .before .before .before .before .before .before .before .before .before .either-of .ensures, c .before .before .before .before .before .before .before .before .before .before .before .before .before .before .with-item-1 .ensures, c .before .before .before .before .before .before .before .before .before .before .before .before .before .before .before .paired-options .ensures, c .before .before .before .before .before .before .before .before .before .before .before .before .before .before .before .before .in-set .ensures)
 
 pub jm-offer-spec : {M : Type 1} → statement M
 jm-offer-spec =
@@ -48,5 +51,6 @@ jm-offer-spec =
     with-item-0-requires
     both-of-requires
     bit-of-requires
+    bit-of-requires-2
     access-options-requires
     returns)

@@ -3,8 +3,8 @@ use native.Mathlib.Omega.{arith}
 use Prim.Native.Nat.{_≤_, _-_}
 use mathlib.Core.Path.{_≡_, _∙_, sym, refl}
 use lib.ListN.{length, length-map, drop, drop-of-length-le}
-use Rattle.records.specs.Record.{anyBad}
-use Rattle.records.proofs.Functions.{bad-here, bad-on, home-there, home-missing}
+use Rattle.records.specs.Record.{anyBad, badRecord}
+use Rattle.records.proofs.Functions.{bad-here, bad-on, home-missing, flags-bad, functions-left}
 use Rattle.records.proofs.bad.Statement.{statement}
 use Rattle.records.proofs.bad.Tie as tie
 
@@ -17,8 +17,14 @@ abbrev μ-loop : tie.MeasureT-loop
 in-use-requires : tie.Need-in-use-requires Inv-loop μ-loop
 in-use-requires c κs = search needs
 
+bad-flags-requires : tie.Need-bad-flags-requires Inv-loop μ-loop
+bad-flags-requires c κs = search needs
+
+returns : tie.Need-returns Inv-loop μ-loop
+returns c = sym (flags-bad _ _ (c .before .before .before .before .in-use .ensures) (c .before .before .if1 .taken) (sym (c .before .bad-flags .ensures) ∙ c .if2 .taken))
+
 loop-holds : tie.Need-loop-holds Inv-loop μ-loop
-loop-holds c = (search needs, sym (length-map (c .before .before .before .args .own .functions) _) ∙ c .before .before .before .good .0 .1 .1 .0 .1 .0 .1, refl)
+loop-holds c = (search needs, sym (length-map (c .before .before .before .before .before .before .args .own .functions) _) ∙ c .before .before .before .before .before .before .good .0 .1 .1 .0 .1 .0 .1, refl)
 
 mul-bad-modes : tie.Need-mul-bad-modes Inv-loop μ-loop
 mul-bad-modes c = search needs
@@ -29,10 +35,15 @@ array-copy-out-bad-modes c = search needs
 bad-modes-requires : tie.Need-bad-modes-requires Inv-loop μ-loop
 bad-modes-requires c κs = search needs
 
-returns : tie.Need-returns Inv-loop μ-loop
-returns c =
-    let l = c .before .before .before .before in let functions = l .before .before .before .before .args .own .functions in
-    sym (home-there _ _ (l .before .before .before .in-use .ensures) (l .before .before .if1 .taken) ∙ l .loop .inv .2 ∙ bad-here functions (l .loop .i) _ (omega (arith, l .loop .inv .1)) (sym (c .before .bad-modes .ensures) ∙ c .if2 .taken))
+-- what is left to the functions, behind the other tests
+left : (l : tie.At-loop Inv-loop μ-loop) → badRecord (l .before .before .before .before .before .before .before .args .own) ≡ anyBad (l .before .before .before .before .before .before .before .args .own .functions)
+left l = functions-left _ _ (l .before .before .before .before .before .before .in-use .ensures) (l .before .before .before .before .if1 .taken) (sym (l .before .before .before .bad-flags .ensures) ∙ l .before .before .if2 .left)
+
+returns-2 : tie.Need-returns-2 Inv-loop μ-loop
+returns-2 c =
+    let l = c .before .before .before .before in
+    let functions = l .before .before .before .before .before .before .before .args .own .functions in
+    sym (left l ∙ l .loop .inv .2 ∙ bad-here functions (l .loop .i) _ (omega (arith, l .loop .inv .1)) (sym (c .before .bad-modes .ensures) ∙ c .if3 .taken))
 
 add-i : tie.Need-add-i Inv-loop μ-loop
 add-i c = search needs
@@ -42,17 +53,19 @@ loop-less c = search needs
 
 loop-again : tie.Need-loop-again Inv-loop μ-loop
 loop-again c =
-    let l = c .before .before .before .before in let functions = l .before .before .before .before .args .own .functions in
-    (search needs, l .loop .inv .1, l .loop .inv .2 ∙ bad-on functions (l .loop .i) _ (omega (arith, l .loop .inv .1)) (sym (c .before .bad-modes .ensures) ∙ c .if2 .left))
-
-returns-2 : tie.Need-returns-2 Inv-loop μ-loop
-unfolding anyBad
-returns-2 c =
-    let functions = c .before .before .before .before .before .args .own .functions in
-    sym (home-there _ _ (c .before .before .before .before .in-use .ensures) (c .before .before .before .if1 .taken) ∙ c .before .loop .inv .2 ∙ simp (drop-of-length-le functions {i = c .before .loop .i} (omega (arith, c .before .loop .inv .1))))
+    let l = c .before .before .before .before in
+    let functions = l .before .before .before .before .before .before .before .args .own .functions in
+    (search needs, l .loop .inv .1, l .loop .inv .2 ∙ bad-on functions (l .loop .i) _ (omega (arith, l .loop .inv .1)) (sym (c .before .bad-modes .ensures) ∙ c .if3 .left))
 
 returns-3 : tie.Need-returns-3 Inv-loop μ-loop
-returns-3 c = sym (home-missing _ _ (c .before .in-use .ensures) (c .if1 .left))
+unfolding anyBad
+returns-3 c =
+    let l = c .before in
+    let functions = l .before .before .before .before .before .before .before .args .own .functions in
+    sym (left l ∙ l .loop .inv .2 ∙ simp (drop-of-length-le functions {i = l .loop .i} (omega (arith, l .loop .inv .1))))
+
+returns-4 : tie.Need-returns-4 Inv-loop μ-loop
+returns-4 c = sym (home-missing _ _ (c .before .before .in-use .ensures) (c .if1 .left))
 
 pub bad-spec : {M : Type 1} → statement M
 bad-spec =
@@ -61,13 +74,15 @@ bad-spec =
     Inv-loop
     μ-loop
     in-use-requires
+    bad-flags-requires
+    returns
     loop-holds
     mul-bad-modes
     array-copy-out-bad-modes
     bad-modes-requires
-    returns
+    returns-2
     add-i
     loop-less
     loop-again
-    returns-2
-    returns-3)
+    returns-3
+    returns-4)

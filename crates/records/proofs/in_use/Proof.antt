@@ -1,3 +1,4 @@
+use borrow.Author.Tests.{eq-eqb, ne-eqb}
 use native.Mathlib.Omega.{arith}
 use mathlib.Core.Path.{_∙_, sym}
 use lib.ListN.{length-map}
@@ -37,14 +38,18 @@ array-copy-out-modes c = search needs
 
 returns-3 : tie.Need-returns-3
 unfolding choose
-returns-3 c = simp (modes-at (c .before .before .before .before .before .args .own .functions) (c .before .before .before .before .before .args .function) (omega (arith, c .before .before .before .before .if1 .left)), c .if3 .taken)
+returns-3 c =
+    let s = c .before .before .before .before .before .before in
+    simp (modes-at (s .args .own .functions) (s .args .function) (omega (arith, c .before .before .before .before .before .if1 .left)), eq-eqb _ 1 (c .if3 .taken))
 
 no-modes-requires-3 : tie.Need-no-modes-requires-3
 no-modes-requires-3 c κs = search needs
 
 returns-4 : tie.Need-returns-4
 unfolding choose
-returns-4 c = simp (c .no-modes3 .ensures, modes-at (c .before .before .before .before .before .before .args .own .functions) (c .before .before .before .before .before .before .args .function) (omega (arith, c .before .before .before .before .before .if1 .left)), c .before .if3 .left)
+returns-4 c =
+    let s = c .before .before .before .before .before .before .before in
+    simp (c .no-modes3 .ensures, modes-at (s .args .own .functions) (s .args .function) (omega (arith, c .before .before .before .before .before .before .if1 .left)), ne-eqb _ 1 (c .before .if3 .left))
 
 pub in-use-spec : {M : Type 1} → statement M
 in-use-spec =
