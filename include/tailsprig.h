@@ -194,6 +194,61 @@ struct tailsprig_menu_read {
 /* Reads a menu. */
 struct tailsprig_menu_read tailsprig_read(const uint8_t *octets, size_t octets_len);
 
+/*
+ * Records. What an end can do, as it says it in its menus. A number that says yes or no is 1 or 0.
+ *
+ * A record is bad, and refused with 10, if one of these numbers is neither, if the home function is not an available one, if a
+ * set holds anything but items 1 to 12, if PCM options exceed 7, or if PCM options 1 or 2 are set without item 1 in the same function. All six
+ * functions are tested. One that is not available has no modes and no PCM, even where they are filled in.
+ */
+struct tailsprig_modes {
+    uint8_t available; /* the end has this function */
+    uint8_t pcm;       /* PCM options: 1 analogue, 2 digital, 4 V.91 */
+    uint16_t items;    /* bit i for item i, items 1 to 12 */
+};
+
+struct tailsprig_record {
+    struct tailsprig_modes functions[6]; /* functions 1 to 6 in turn */
+    uint8_t home;                        /* the function that a JM names where the asked one is not available */
+    uint8_t lapm;                        /* LAPM is wanted */
+    uint8_t access;                      /* an access group is wanted */
+    uint8_t cellular;                    /* this end is cellular */
+    uint8_t digital;                     /* this end is on a digital network */
+};
+
+/* No menu that is made has more octets. */
+#define TAILSPRIG_MENU_MOST 7
+
+/*
+ * Makes the CM of a record for a function into out, and answers how many octets it has, 4 to 7. Later bytes of out keep their
+ * values. A refusal writes nothing:
+ *   10  the record is bad
+ *    5  the function is not available: 0 and 7 to 255 never are
+ *    6  out is too short
+ */
+int32_t tailsprig_cm(struct tailsprig_record own, uint8_t function, uint8_t *out, size_t out_len);
+
+/*
+ * Makes the JM of a record for a heard CM into out, and answers how many octets it has, 4 to 7. A refusal writes nothing:
+ *   10  the record is bad
+ *    4, 5, 3  the heard CM cannot be read
+ *    6  out is too short
+ */
+int32_t tailsprig_jm(struct tailsprig_record own, const uint8_t *heard, size_t heard_len, uint8_t *out, size_t out_len);
+
+/* Answers of tailsprig_call_function. */
+#define TAILSPRIG_CALL_FUNCTION_NOWHERE 0
+#define TAILSPRIG_CALL_FUNCTION_HEARD 1
+#define TAILSPRIG_CALL_FUNCTION_OWN 2
+
+/*
+ * In which of two menus the call function octet of a JM stands, as that menu's first octet: in the heard CM where its function is
+ * available, otherwise in our own CM for the home function. Nowhere with a bad record, and where one of the menus cannot be
+ * read. The function of our own CM is not tested.
+ */
+uint8_t tailsprig_call_function(struct tailsprig_record own, const uint8_t *heard, size_t heard_len, const uint8_t *own_cm,
+                                size_t own_cm_len);
+
 /* What tailsprig_choice adds to PCM options: no item is as high. */
 #define TAILSPRIG_PCM 16
 

@@ -56,6 +56,27 @@ pub mod c {
         pub code: i32,
     }
 
+    /// What an end has for one call function.
+    #[derive(Clone, Copy, Debug, Default, PartialEq, Eq)]
+    #[repr(C)]
+    pub struct Modes {
+        pub available: u8,
+        pub pcm: u8,
+        pub items: u16,
+    }
+
+    /// What an end can do.
+    #[derive(Clone, Copy, Debug, Default, PartialEq, Eq)]
+    #[repr(C)]
+    pub struct Record {
+        pub functions: [Modes; 6],
+        pub home: u8,
+        pub lapm: u8,
+        pub access: u8,
+        pub cellular: u8,
+        pub digital: u8,
+    }
+
     extern "C" {
         pub fn tailsprig_write(
             kind: u8,
@@ -72,6 +93,21 @@ pub mod c {
         pub fn tailsprig_find(octets: *const u8, octets_len: usize, tag: u8) -> i32;
         pub fn tailsprig_part(octets: *const u8, octets_len: usize, place: usize) -> usize;
         pub fn tailsprig_read(octets: *const u8, octets_len: usize) -> MenuRead;
+        pub fn tailsprig_cm(own: Record, function: u8, out: *mut u8, out_len: usize) -> i32;
+        pub fn tailsprig_jm(
+            own: Record,
+            heard: *const u8,
+            heard_len: usize,
+            out: *mut u8,
+            out_len: usize,
+        ) -> i32;
+        pub fn tailsprig_call_function(
+            own: Record,
+            heard: *const u8,
+            heard_len: usize,
+            own_cm: *const u8,
+            own_cm_len: usize,
+        ) -> u8;
         pub fn tailsprig_choice(cm: *const u8, cm_len: usize, jm: *const u8, jm_len: usize) -> i32;
     }
 }
@@ -188,6 +224,35 @@ pub fn read(octets: &[u8]) -> Result<c::Offer, Refusal> {
     // SAFETY: as for `find`.
     let menu = unsafe { c::tailsprig_read(octets.as_ptr(), octets.len()) };
     count(menu.code).map(|_| menu.offer)
+}
+
+/// Makes the CM of a record for a function into `out`, and answers how many octets it has.
+pub fn cm(own: &c::Record, function: u8, out: &mut [u8]) -> Result<usize, Refusal> {
+    // SAFETY: the record goes by value; the slice is lent for the call alone, with its length.
+    count(unsafe { c::tailsprig_cm(*own, function, out.as_mut_ptr(), out.len()) })
+}
+
+/// Makes the JM of a record for a heard CM into `out`, and answers how many octets it has.
+pub fn jm(own: &c::Record, heard: &[u8], out: &mut [u8]) -> Result<usize, Refusal> {
+    // SAFETY: as for `cm` and `write`.
+    count(unsafe { c::tailsprig_jm(*own, heard.as_ptr(), heard.len(), out.as_mut_ptr(), out.len()) })
+}
+
+/// The menu in which the call function octet of a JM stands, as its first octet.
+#[derive(Clone, Copy, Debug, PartialEq, Eq)]
+pub enum Source {
+    Heard,
+    Own,
+}
+
+/// Where the call function octet of a JM stands: in the heard CM, in our own CM for the home function, or nowhere.
+pub fn call_function(own: &c::Record, heard: &[u8], own_cm: &[u8]) -> Option<Source> {
+    // SAFETY: the record goes by value; both slices are lent for the call alone, with their lengths.
+    match unsafe { c::tailsprig_call_function(*own, heard.as_ptr(), heard.len(), own_cm.as_ptr(), own_cm.len()) } {
+        1 => Some(Source::Heard),
+        2 => Some(Source::Own),
+        _ => None,
+    }
 }
 
 /// What both ends go on with.

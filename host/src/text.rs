@@ -1,5 +1,8 @@
-//! The texts of the vector files: octets, bits, refusals and reports.
-use crate::{Kind, Refusal, Report};
+//! The texts of the vector files: octets, bits, records, refusals and reports.
+use crate::{
+    c::{Modes, Record},
+    Kind, Refusal, Report,
+};
 
 /// Octets as two upper-case hex digits each, single spaces between; `-` is the empty list.
 pub fn octets(text: &str) -> Result<Vec<u8>, String> {
@@ -29,6 +32,32 @@ pub fn kind(text: &str) -> Result<Kind, String> {
         "MENU" => Ok(Kind::Menu),
         _ => Err(format!("'{text}' is no kind")),
     }
+}
+
+/// A record: six functions `AVAILABLE:ITEMS:PCM` with the items as a set in hex, the home function, and a digit each for LAPM wanted,
+/// access wanted, cellular, digital.
+pub fn record(text: &str) -> Result<Record, String> {
+    let fields: Vec<&str> = text.split(' ').collect();
+    let [functions @ .., home, flags] = fields.as_slice() else {
+        return Err(format!("'{text}' is no record"));
+    };
+    let functions: Vec<Modes> = functions.iter().map(|modes| self::modes(modes)).collect::<Result<_, _>>()?;
+    let flags: Vec<u8> = flags.bytes().map(|digit| digit.wrapping_sub(b'0')).collect();
+    match (<[Modes; 6]>::try_from(functions), flags.as_slice()) {
+        (Ok(functions), &[lapm, access, cellular, digital]) => {
+            Ok(Record { functions, home: number(home)?, lapm, access, cellular, digital })
+        }
+        _ => Err(format!("'{text}' is no record")),
+    }
+}
+
+fn modes(text: &str) -> Result<Modes, String> {
+    let fields: Vec<&str> = text.split(':').collect();
+    let &[available, items, pcm] = fields.as_slice() else {
+        return Err(format!("'{text}' is no function of a record"));
+    };
+    let items = u16::from_str_radix(items, 16).map_err(|_| format!("'{items}' is no set of items"))?;
+    Ok(Modes { available: number(available)?, pcm: number(pcm)?, items })
 }
 
 /// Bits as characters; `-` where there are none.

@@ -100,7 +100,12 @@ fn cm_offer(own: Record, function: u8, modes: Modes) -> Offer
         pcm: pcm,
         lapm: own.lapm == 1,
         access: there,
-        access_options: access_options(there, bit_of(own.cellular == 1), 0, bit_of(own.digital == 1)),
+        access_options: access_options(
+            there,
+            bit_of(own.cellular == 1),
+            0,
+            bit_of(own.digital == 1),
+        ),
     }
 }
 
@@ -160,7 +165,12 @@ fn jm_offer(own: Record, cm: Offer, modes: Modes) -> Offer
         pcm: pcm,
         lapm: both_of(cm.lapm, own.lapm == 1),
         access: there,
-        access_options: access_options(there, caller, bit_of(own.cellular == 1), bit_of(own.digital == 1)),
+        access_options: access_options(
+            there,
+            caller,
+            bit_of(own.cellular == 1),
+            bit_of(own.digital == 1),
+        ),
     }
 }
 

@@ -22,6 +22,10 @@ use Rattle.sequences.specs.Line.{sequence, copies, cj}
 use Rattle.octets.specs.Lent.{says, Outcome, roomFault, put, Meets}
 use Rattle.sequences.specs.Writing.{written, writtenCj}
 use Rattle.sequences.proofs.Lines.{line-length, line-small, cj-length}
+use Rattle.menus.specs.Offer.{offerOf}
+use Rattle.records.specs.declared.Record.{Record}
+use Rattle.offers.specs.Making.{cmOffer, jmOffer, madeCm, madeJm}
+use Rattle.offers.proofs.Making.{menu-short}
 use Rattle.tailsprig.specs.Codes.{code, Small, Returns}
 
 pub read-back : (n : ℕ) → n < 2 ^ 31 → toZ w32 n ≡ pos n
@@ -51,6 +55,12 @@ written-small kind octets n out h =
 
 pub cj-small : (out : List ℕ) → Small (writtenCj out .answer)
 cj-small out = put-small (roomFault cj out) cj out (λ e. omega (arith, cj-length))
+
+pub cm-small : (own : Record) (function : ℕ) (out : List ℕ) → Small (madeCm own function out .answer)
+cm-small own function out = put-small _ _ out (λ _. omega (arith, menu-short (cmOffer own function)))
+
+pub jm-small : (own : Record) (heard out : List ℕ) → Small (madeJm own heard out .answer)
+jm-small own heard out = put-small _ _ out (λ _. omega (arith, menu-short (jmOffer own (offerOf heard))))
 
 pub meets-small : (laid : Outcome) (w : Wrote) (after : List ℕ) → Meets laid w after → Small (laid .answer) → Small (says w)
 meets-small laid w after m s = rw (m .answer) s

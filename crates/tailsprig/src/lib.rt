@@ -9,6 +9,8 @@ use octets::Kind;
 use octets::Refusal;
 use octets::Wrote;
 use offers::Choice;
+use offers::Source;
+use records::Record;
 ghost use mathlib.Core.Path.{_≡_};
 ghost use lib.IntN.{pos, negℤ};
 ghost use Rattle.listening.specs.Record.{fresh};
@@ -21,7 +23,8 @@ ghost use Rattle.menus.specs.Groups as groups;
 ghost use Rattle.menus.specs.Offer.{menuRead};
 ghost use Rattle.octets.specs.Refusals.{number};
 ghost use Rattle.offers.specs.Choosing.{saysChoice, choiceOf};
-ghost use Rattle.tailsprig.specs.Choosing.{choiceCode};
+ghost use Rattle.offers.specs.Making.{sourceOf, madeCm, madeJm};
+ghost use Rattle.tailsprig.specs.Choosing.{choiceCode, sourceCode};
 ghost use Rattle.tailsprig.specs.Reading.{lookedCode, SmallLooked, noOffer, ReadsAs};
 ghost use Rattle.octets.specs.Lent.{says};
 ghost use Rattle.sequences.specs.Writing.{writtenCj};
@@ -269,6 +272,40 @@ pub extern "C" fn tailsprig_read(octets: &[u8]) -> MenuRead
             code: refused(r),
         },
     }
+}
+
+// Makes the CM of a record for a function.
+#[no_mangle]
+pub extern "C" fn tailsprig_cm(own: Record, function: u8, out: &mut [u8]) -> i32
+    ensures { λ r. ⌜ Returns (madeCm own function (now (out .entry))) r (now (out .exit)) ⌝ }
+{
+    wrote(offers::make_cm(own, function, out))
+}
+
+// Makes the JM of a record for a heard CM.
+#[no_mangle]
+pub extern "C" fn tailsprig_jm(own: Record, heard: &[u8], out: &mut [u8]) -> i32
+    ensures { λ r. ⌜ Returns (madeJm own (now (heard .entry)) (now (out .entry))) r (now (out .exit)) ⌝ }
+{
+    wrote(offers::make_jm(own, heard, out))
+}
+
+fn source_code(source: Source) -> u8
+    ensures { λ n. ⌜ n ≡ sourceCode source ⌝ }
+{
+    match source {
+        Source::Neither => 0,
+        Source::Heard => 1,
+        Source::Own => 2,
+    }
+}
+
+// In which of two menus the call function octet of a JM stands.
+#[no_mangle]
+pub extern "C" fn tailsprig_call_function(own: Record, heard: &[u8], own_cm: &[u8]) -> u8
+    ensures { λ r. ⌜ r ≡ sourceCode (sourceOf own (now (heard .entry)) (now («own_cm» .entry))) ⌝ }
+{
+    source_code(offers::call_source(own, heard, own_cm))
 }
 
 fn choice_code(choice: Choice) -> i32

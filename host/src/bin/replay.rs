@@ -2,18 +2,21 @@
 //! row's last column. Prints a line for each difference and a last line with the counts; exits with 1 on a difference and
 //! with 2 where a file cannot be read as vectors. A file's header line says what its rows are.
 use std::{env, fs, process::ExitCode};
-use tailsprig::{text, Choice, Listener, Report};
+use tailsprig::{text, Choice, Listener, Refusal, Report, Source};
 
 /// What a row's call gives, in the text of its last column.
 type Call = fn(&[&str]) -> Result<String, String>;
 
 /// The header of each kind of file, and the call for its rows.
-const FILES: [(&str, Call); 6] = [
+const FILES: [(&str, Call); 9] = [
     ("kind\toctets\tcopies\troom\tanswer", write),
     ("input\treports", listen),
     ("octets\ttag\tanswer", find),
     ("octets\tplace\tanswer", part),
     ("octets\tanswer", read),
+    ("record\tfunction\troom\tanswer", cm),
+    ("record\theard\troom\tanswer", jm),
+    ("record\theard\town\tanswer", call_function),
     ("cm\tjm\tanswer", choice),
 ];
 
@@ -26,14 +29,23 @@ fn write(row: &[&str]) -> Result<String, String> {
     let kind = text::kind(row[0])?;
     let octets = text::octets(row[1])?;
     let copies = text::number(row[2])?;
-    let lent = untouched(text::number(row[3])?);
+    written(row[3], text::show_bits, |out| tailsprig::write(kind, &octets, copies, out))
+}
+
+/// What a call writes into a lent buffer of so many bytes, or its refusal; and whether it kept to that.
+fn written(
+    room: &str,
+    show: fn(&[u8]) -> String,
+    call: impl FnOnce(&mut [u8]) -> Result<usize, Refusal>,
+) -> Result<String, String> {
+    let lent = untouched(text::number(room)?);
     let mut out = lent.clone();
-    let (answer, written) = match tailsprig::write(kind, &octets, copies, &mut out) {
-        Ok(bits) if bits > out.len() => return Ok(format!("{bits} bits in {} bytes", out.len())),
-        Ok(bits) => (text::show_bits(&out[..bits]), bits),
+    let (answer, count) = match call(&mut out) {
+        Ok(count) if count > out.len() => return Ok(format!("{count} written into {} bytes", out.len())),
+        Ok(count) => (show(&out[..count]), count),
         Err(refusal) => (text::show_refusal(refusal), 0),
     };
-    if out[written..] != lent[written..] {
+    if out[count..] != lent[count..] {
         return Ok(format!("{answer}, and bytes behind that changed"));
     }
     Ok(answer)
@@ -107,6 +119,29 @@ fn read(row: &[&str]) -> Result<String, String> {
             )
         }
         Err(refusal) => text::show_refusal(refusal),
+    })
+}
+
+fn cm(row: &[&str]) -> Result<String, String> {
+    let own = text::record(row[0])?;
+    let function = text::number(row[1])?;
+    written(row[2], text::show_octets, |out| tailsprig::cm(&own, function, out))
+}
+
+fn jm(row: &[&str]) -> Result<String, String> {
+    let own = text::record(row[0])?;
+    let heard = text::octets(row[1])?;
+    written(row[2], text::show_octets, |out| tailsprig::jm(&own, &heard, out))
+}
+
+fn call_function(row: &[&str]) -> Result<String, String> {
+    let own = text::record(row[0])?;
+    let heard = text::octets(row[1])?;
+    let own_cm = text::octets(row[2])?;
+    Ok(match tailsprig::call_function(&own, &heard, &own_cm) {
+        Some(Source::Heard) => format!("heard {:02X}", heard[0]),
+        Some(Source::Own) => format!("own {:02X}", own_cm[0]),
+        None => "empty".to_string(),
     })
 }
 
