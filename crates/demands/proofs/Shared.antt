@@ -8,11 +8,13 @@ use borrow.Author.Tests.{ltb-true, eqb-true, eqb-false}
 use lib.Dec.{eqb}
 use Rattle.laws.proofs.Chosen.{chosen, both-true}
 use Rattle.menus.specs.declared.Offer.{Offer}
-use Rattle.offers.specs.Choosing.{inSet, analogue, digital, v91, paired, lowest, lowestFrom, pcmChoice, itemChoice, chosenFrom}
+use Rattle.menus.specs.Items.{inSet}
+use Rattle.offers.specs.Making.{analogue, digital, v91, paired}
+use Rattle.offers.specs.Choosing.{lowest, lowestFrom, pcmChoice, itemChoice, chosenFrom}
 use Rattle.demands.specs.Shared.{Shared}
 
 -- the lowest item, where there is one, is in the set and below the end of what was looked at
-lowest-in : (items i n : ℕ) → 0 < lowestFrom items i n → (inSet items (lowestFrom items i n) ≡ true) × (lowestFrom items i n < i + n)
+pub lowest-in : (items i n : ℕ) → 0 < lowestFrom items i n → (inSet items (lowestFrom items i n) ≡ true) × (lowestFrom items i n < i + n)
 unfolding lowestFrom
 lowest-in items i zero = λ h. absurd (omega (arith, h))
 lowest-in items i (suc n) =
@@ -30,7 +32,7 @@ parts : (x y z : ℕ) → x < 2 → y < 2 → z < 2 → (analogue (x + 2 * y + 4
 parts x y z p q r = (omega (arith, p, q, r), omega (arith, p, q, r), omega (arith, p, q, r))
 
 -- the bits of the options that pair
-crosswise : (cm jm : ℕ) → (analogue (paired cm jm) ≡ analogue jm * digital cm) × (digital (paired cm jm) ≡ digital jm * analogue cm) × (v91 (paired cm jm) ≡ v91 jm * v91 cm)
+pub crosswise : (cm jm : ℕ) → (analogue (paired cm jm) ≡ analogue jm * digital cm) × (digital (paired cm jm) ≡ digital jm * analogue cm) × (v91 (paired cm jm) ≡ v91 jm * v91 cm)
 unfolding paired
 crosswise cm jm =
     parts (analogue jm * digital cm) (digital jm * analogue cm) (v91 jm * v91 cm)

@@ -6,10 +6,11 @@ use Rattle.laws.specs.Tests.{every, sameList}
 use Rattle.octets.specs.Lists.{firstFault, untilCategory}
 use Rattle.sequences.specs.Line.{framed, framedAll, sequence, copies}
 use Rattle.octets.specs.Lent.{put}
-use Rattle.menus.specs.Items.{places, placeOf, hasItem, setOf}
+use Rattle.menus.specs.Items.{places, placeOf, hasItem, setOf, inSet}
 use Rattle.menus.specs.Groups.{firstGroup, frontPart, groupOf}
 use Rattle.menus.specs.Offer.{menuRead}
-use Rattle.offers.specs.Choosing.{inSet, paired, lowestFrom, pcmChoice, itemChoice, chosenFrom}
+use Rattle.offers.specs.Making.{paired}
+use Rattle.offers.specs.Choosing.{lowestFrom, pcmChoice, itemChoice, chosenFrom}
 use Rattle.demands.specs.Worked.{holds, worked}
 
 pub worked-values-hold : T (every holds worked)

@@ -1,2 +1,3 @@
 pub mod Worked
 pub mod Shared
+pub mod Joint

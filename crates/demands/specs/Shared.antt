@@ -5,7 +5,9 @@ use mathlib.Core.Bool.{true}
 use Rattle.octets.specs.declared.Refusal.the-variants.{NotOffered}
 use Rattle.octets.specs.Refusals.{number}
 use Rattle.menus.specs.declared.Offer.{Offer}
-use Rattle.offers.specs.Choosing.{Chosen, none, item, pcm, refusal, inSet, analogue, digital, v91}
+use Rattle.menus.specs.Items.{inSet}
+use Rattle.offers.specs.Making.{analogue, digital, v91}
+use Rattle.offers.specs.Choosing.{Chosen, none, item, pcm, refusal}
 
 -- never "Item 0 chosen as the best mode": an item from 1 to 12 that both menus have for the same function
 pub record SharedItem (cm jm : Offer) (i : ℕ) : Type 0 where

@@ -32,3 +32,9 @@ either-false false b h = (refl, h)
 pub clash : {A : Type 0} → _≡_ {A = Bool} true false → A
 unfolding choose
 clash e = absurd (let z : _≡_ {A = ℕ} 1 0 = ap (λ (b : Bool). choose b 1 0) e in let w : ⊥ = omega arith in w)
+
+-- choices by one test are the same where each side is, as far as it is chosen
+pub chosen-same : {A : Type 0} (t : Bool) (x x′ y y′ : A) → (t ≡ true → x ≡ x′) → (t ≡ false → y ≡ y′) → choose t x y ≡ choose t x′ y′
+unfolding choose
+chosen-same true x x′ y y′ p q = p refl
+chosen-same false x x′ y y′ p q = q refl

@@ -45,3 +45,9 @@ bit-below a (suc n) r (suc i) h =
 pub bit-at : (a n r : ℕ) → a < 2 → r < 2 ^ n → bitOf n (a * 2 ^ n + r) ≡ a
 bit-at a zero r h k = bit-first (a * 1 + r) ∙ omega (arith, h, k)
 bit-at a (suc n) r h k = bit-next n (a * 2 ^ suc n + r) ∙ ap (bitOf n) (block-half a n r) ∙ bit-at a n (r / 2) h (omega (arith, k))
+
+-- numbers with the same half have the same items but the first
+pub same-half : (a b i : ℕ) → a / 2 ≡ b / 2 → 0 < i → inSet a i ≡ inSet b i
+unfolding inSet
+same-half a b zero e h = absurd (not-suc-le-zero h)
+same-half a b (suc i) e h = rw (bit-next i a, bit-next i b, e)

@@ -1,7 +1,7 @@
 -- Laws about sets of items as numbers.
 -- Assumes nothing.
 use Prim.Native.Nat.{ℕ, zero, suc, _<_, _≤_, _+_, _*_, _/_, _^_}
-use native.Mathlib.Nat.{div-eq-of-lt, lt-of-lt-of-le, not-suc-le-zero, le-of-suc-le-suc, eq-or-lt-of-le}
+use native.Mathlib.Nat.{zero-div, div-eq-of-lt, lt-of-lt-of-le, not-suc-le-zero, le-of-suc-le-suc, eq-or-lt-of-le}
 use native.Mathlib.Numerals.{add-one}
 use native.Mathlib.Omega.{arith}
 use mathlib.Core.Path.{_≡_, refl, ap, _∙_}
@@ -33,6 +33,11 @@ set-small f (suc n) = chosen (λ (w : ℕ). setOf f n + w < 2 ^ suc n) (f n) (2 
 pub set-more : (f : ℕ → Bool) (n : ℕ) → setOf f n + choose (f n) (2 ^ n) 0 ≡ setOf f (n + 1)
 unfolding setOf
 set-more f n = rw add-one
+
+-- nothing is in the empty set
+pub none-in : (i : ℕ) → inSet 0 i ≡ false
+unfolding inSet
+none-in i = let none : 0 / 2 ^ i ≡ 0 = zero-div (2 ^ i) in simp none
 
 -- no item above 15 is in a set of 16 bits
 pub past-set : (items i : ℕ) → items < 65536 → 16 ≤ i → inSet items i ≡ false

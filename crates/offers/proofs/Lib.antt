@@ -4,3 +4,4 @@ pub mod Making
 pub mod Groups
 pub mod Meaning
 pub mod Answering
+pub mod Saying

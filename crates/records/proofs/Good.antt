@@ -64,3 +64,9 @@ within-by functions f false p h = ltb-false _ _ p
 
 pub available-within : (functions : List Modes) (f : ℕ) → modesAt functions f .available ≡ 1 → f ≤ length functions
 available-within functions f h = within-by functions f (ltb (length functions) f) refl h
+
+-- a function that is not available has nothing
+pub none-used : (functions : List Modes) (f : ℕ) → flag (modesAt functions f .available) ≡ false → modesAt functions f ≡ noModes
+unfolding modesAt
+none-used functions zero = λ _. refl
+none-used functions (suc n) = chosen (λ (m : Modes). flag (m .available) ≡ false → m ≡ noModes) (flag (getD functions n noModes .available)) _ _ (λ t h. clash (sym t ∙ h)) (λ _ _. refl)
