@@ -2,3 +2,4 @@ pub mod Worked
 pub mod Shared
 pub mod Joint
 pub mod Settled
+pub mod Incident

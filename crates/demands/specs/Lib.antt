@@ -1,3 +1,4 @@
 pub mod Worked
 pub mod Shared
 pub mod Joint
+pub mod Incident

@@ -41,6 +41,11 @@ module _ (i : ℕ) (h : i < 13) where
   unfolding places placeOf allBelow both
   place-bit = ltb→lt (placeOf i .bit .0) 8 (below (λ (k : ℕ). ltb (placeOf k .bit .0) 8) 13 tt i h)
 
+  -- and no item stands past the third octet
+  pub place-octet : placeOf i .octet < 3
+  unfolding places placeOf allBelow both
+  place-octet = ltb→lt (placeOf i .octet) 3 (below (λ (k : ℕ). ltb (placeOf k .octet) 3) 13 tt i h)
+
 -- an octet that is not there has no bits
 zero-bit : (k : ℕ) → k < 8 → bitOf k 0 ≡ 0
 unfolding allBelow both

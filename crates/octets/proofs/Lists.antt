@@ -3,10 +3,10 @@
 use Prim.Native.Nat.{ℕ, zero, suc, _<_, _≤_, _+_}
 use native.Mathlib.Numerals.{add-one}
 use native.Mathlib.Omega.{arith}
-use mathlib.Core.Path.{_≡_, refl, ap, _∙_}
+use mathlib.Core.Path.{_≡_, refl, sym, ap, _∙_}
 use mathlib.Core.Bool.{Bool, true, false}
 use mathlib.Core.List.{List, [], _∷_, _++_}
-use borrow.Author.Tests.{ltb-true, ltb-false, lt-ltb, eq-eqb, ne-eqb}
+use borrow.Author.Tests.{ltb-true, ltb-false, lt-ltb, eq-eqb, ne-eqb, eqb-true, eqb-false}
 use lib.Dec.{ltb, eqb}
 use lib.ListN.{length, drop, getD, drop-of-length-le}
 use lib.Seq.{drop-cons}
@@ -33,17 +33,23 @@ short-by p s false l e = ltb-false 64 (length s) l
 pub accepted-short : (p : Purpose) (s : List ℕ) → listFault p s ≡ 0 → length s ≤ 64
 accepted-short p s e = short-by p s (ltb 64 (length s)) refl e
 
--- and opens with the call function
-opens-by : (p : Purpose) (s : List ℕ) (t : Bool) → opens s ≡ t → choose t (firstFault p (drop 1 s)) 5 ≡ 0 → opens s ≡ true
+-- opens with the call function, and nothing behind that is at fault
+opens-by : (p : Purpose) (s : List ℕ) (t : Bool) → opens s ≡ t → choose t (firstFault p (drop 1 s)) 5 ≡ 0 → (opens s ≡ true) × (firstFault p (drop 1 s) ≡ 0)
 unfolding choose
-opens-by p s true o e = o
+opens-by p s true o e = (o, e)
 opens-by p s false o e = absurd (omega (arith, e))
 
-pub accepted-opens : (p : Purpose) (s : List ℕ) → listFault p s ≡ 0 → opens s ≡ true
-accepted-opens p s =
-    chosen (λ (n : ℕ). n ≡ 0 → opens s ≡ true) (ltb 64 (length s)) 4 (choose (opens s) (firstFault p (drop 1 s)) 5)
+accepted-parts : (p : Purpose) (s : List ℕ) → listFault p s ≡ 0 → (opens s ≡ true) × (firstFault p (drop 1 s) ≡ 0)
+accepted-parts p s =
+    chosen (λ (n : ℕ). n ≡ 0 → (opens s ≡ true) × (firstFault p (drop 1 s) ≡ 0)) (ltb 64 (length s)) 4 (choose (opens s) (firstFault p (drop 1 s)) 5)
     (λ _ e. absurd (omega (arith, e)))
     (λ _ e. opens-by p s (opens s) refl e)
+
+pub accepted-opens : (p : Purpose) (s : List ℕ) → listFault p s ≡ 0 → opens s ≡ true
+accepted-opens p s e = accepted-parts p s e .0
+
+pub accepted-rest : (p : Purpose) (s : List ℕ) → listFault p s ≡ 0 → firstFault p (drop 1 s) ≡ 0
+accepted-rest p s e = accepted-parts p s e .1
 
 module _ (p : Purpose) (s : List ℕ) (i : ℕ) where
   pub fault-here : i < length s → (octetFault p (getD s i 0) ≡ 0 → ⊥) → firstFault p (drop i s) ≡ octetFault p (getD s i 0)
@@ -90,6 +96,16 @@ pub fault-append : (p : Purpose) (a b : List ℕ) → firstFault p (a ++ b) ≡ 
 unfolding firstFault choose
 fault-append p [] b = refl
 fault-append p (x ∷ a) b = ap (λ (n : ℕ). before (octetFault p x) n) (fault-append p a b) ∙ before-by (octetFault p x) (firstFault p a) (firstFault p b) (eqb (octetFault p x) 0) refl
+
+-- no fault in both is none in either, and the other way round
+pub faultless : (p : Purpose) (a b : List ℕ) → firstFault p a ≡ 0 → firstFault p b ≡ 0 → firstFault p (a ++ b) ≡ 0
+unfolding choose
+faultless p a b h k = fault-append p a b ∙ simp (h, k)
+
+pub faultless-parts : (p : Purpose) (a b : List ℕ) → firstFault p (a ++ b) ≡ 0 → (firstFault p a ≡ 0) × (firstFault p b ≡ 0)
+faultless-parts p a b e =
+    chosen (λ (n : ℕ). n ≡ 0 → (firstFault p a ≡ 0) × (firstFault p b ≡ 0)) (eqb (firstFault p a) 0) (firstFault p b) (firstFault p a)
+    (λ t z. (eqb-true _ _ t, z)) (λ t z. absurd (eqb-false _ _ t z)) (sym (fault-append p a b) ∙ e)
 
 -- a category octet in front ends the group before it
 pub group-starts : (b : ℕ) (bs : List ℕ) → category b ≡ true → groupEnds (b ∷ bs) 0 ≡ true

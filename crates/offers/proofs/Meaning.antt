@@ -16,7 +16,7 @@ use Rattle.octets.specs.declared.Purpose.{Purpose}
 use Rattle.octets.specs.declared.Purpose.the-variants.{Reading, Writing}
 use Rattle.octets.specs.Octets.{b3, b4, b5, category, tag, extension, bad}
 use Rattle.octets.specs.Lists.{before, categoryFault, octetFault, firstFault, opens, listFault}
-use Rattle.octets.proofs.Lists.{fault-append}
+use Rattle.octets.proofs.Lists.{faultless}
 use Rattle.octets.proofs.Fine.{group-fine, accepted-by}
 use Rattle.menus.specs.declared.Offer.{Offer}
 use Rattle.menus.specs.Items.{itemsOf, modulationOctet}
@@ -42,10 +42,6 @@ module _ (p : Purpose) (later : (t : ℕ) → (t ≡ 0 → ⊥) → categoryFaul
       group-fine p (modulationOctet items 0) (modulationOctet items 1 ∷ modulationOctet items 2 ∷ []) (group .0) (group .1)
       ∙ ap (λ (b : ℕ). categoryFault p (tag b)) (octet-0 items) ∙ ap (λ (s : ℕ). categoryFault p s) (tag-there 5 (items % 8) (lit< tt)) ∙ later 5 (λ z. omega (arith, z))
 
-  both-fine : (a b : List ℕ) → firstFault p a ≡ 0 → firstFault p b ≡ 0 → firstFault p (a ++ b) ≡ 0
-  unfolding choose
-  both-fine a b h k = fault-append p a b ∙ simp (h, k)
-
   none-fine : firstFault p [] ≡ 0
   unfolding firstFault
   none-fine = refl
@@ -57,13 +53,13 @@ module _ (p : Purpose) (later : (t : ℕ) → (t ≡ 0 → ⊥) → categoryFaul
       let pcms = oneOctet (ltb 0 (offer .pcm)) (categoryOctet pcmTag (offer .pcm)) in
       let protocols = oneOctet (offer .lapm) (categoryOctet protocol 1) in
       let accesses = oneOctet (offer .access) (categoryOctet access (offer .«access_options»)) in
-      let tail = both-fine pcms (protocols ++ (accesses ++ [])) (one-fine (ltb 0 (offer .pcm)) pcmTag (offer .pcm) (lit< tt) (λ z. omega (arith, z)))
-      (both-fine protocols (accesses ++ []) (one-fine (offer .lapm) protocol 1 (lit< tt) (λ z. omega (arith, z)))
-      (both-fine accesses [] (one-fine (offer .access) access (offer .«access_options») (lit< tt) (λ z. omega (arith, z))) none-fine)) in
+      let tail = faultless p pcms (protocols ++ (accesses ++ [])) (one-fine (ltb 0 (offer .pcm)) pcmTag (offer .pcm) (lit< tt) (λ z. omega (arith, z)))
+      (faultless p protocols (accesses ++ []) (one-fine (offer .lapm) protocol 1 (lit< tt) (λ z. omega (arith, z)))
+      (faultless p accesses [] (one-fine (offer .access) access (offer .«access_options») (lit< tt) (λ z. omega (arith, z))) none-fine)) in
       accepted-by p (categoryOctet 1 (offer .function)) (modulationGroup (offer .items) ++ (pcms ++ (protocols ++ (accesses ++ []))))
       (omega (arith, menu-short offer))
       (category-there 1 (offer .function) (lit< tt)) (tag-there 1 (offer .function) (lit< tt))
-      (both-fine (modulationGroup (offer .items)) (pcms ++ (protocols ++ (accesses ++ []))) (modulation-fine (offer .items)) tail)
+      (faultless p (modulationGroup (offer .items)) (pcms ++ (protocols ++ (accesses ++ []))) (modulation-fine (offer .items)) tail)
 
 pub menu-readable : (offer : Offer) → listFault Reading (menuOf offer) ≡ 0
 menu-readable offer = menu-accepted Reading (λ t n. refl) offer
@@ -142,7 +138,7 @@ unfolding choose
 chosen-one true = refl
 chosen-one false = refl
 
-same-offer : (f g i j p q o r : ℕ) (l m a b : Bool) → f ≡ g → i ≡ j → p ≡ q → l ≡ m → a ≡ b → o ≡ r
+pub same-offer : (f g i j p q o r : ℕ) (l m a b : Bool) → f ≡ g → i ≡ j → p ≡ q → l ≡ m → a ≡ b → o ≡ r
     → _≡_ {A = Offer} (record { function = f; items = i; pcm = p; lapm = l; access = a; «access_options» = o }) (record { function = g; items = j; pcm = q; lapm = m; access = b; «access_options» = r })
 same-offer f g i j p q o r l m a b e1 e2 e3 e4 e5 e6 = cc
 

@@ -1,0 +1,182 @@
+-- What V.8 does not define, put into a menu at a group's end, changes nothing that the reader says.
+-- Assumes nothing.
+use Prim.Native.Nat.{ℕ, zero, suc, _<_, _≤_, _+_}
+use native.Mathlib.Omega.{arith}
+use mathlib.Core.Path.{_≡_, refl, sym, ap, ap₂, subst, _∙_}
+use mathlib.Core.Bool.{Bool, true, false, not}
+use mathlib.Core.List.{List, [], _∷_, _++_, append-assoc}
+use borrow.Author.Tests.{not-true, lt-ltb, eqb-true}
+use lib.Dec.{eqb}
+use lib.ListN.{length, getD, length-append, List·getD-append}
+use Rattle.laws.specs.Choice.{choose, both}
+use Rattle.laws.specs.Tests.{every}
+use Rattle.laws.proofs.Chosen.{both-true, clash}
+use Rattle.octets.specs.declared.Purpose.the-variants.{Reading}
+use Rattle.octets.specs.Octets.{category, tag, options, extension}
+use Rattle.octets.specs.Lists.{before, firstFault, listFault, groupEnds}
+use Rattle.octets.proofs.Lists.{accepted-opens, accepted-rest, faultless, faultless-parts, group-starts}
+use Rattle.octets.proofs.Fine.{extensions-fine, group-fine, accepted-by}
+use Rattle.menus.specs.declared.Offer.{Offer}
+use Rattle.menus.specs.Items.{placeOf, bitOf, hasItem, setOf, itemsOf}
+use Rattle.menus.specs.Groups.{opensGroup, groupOf, optionsIn}
+use Rattle.menus.specs.Offer.{Read, modulation, pcmTag, protocol, access, stands, offerOf, menuRead, offers}
+use Rattle.menus.proofs.Joined.{groupFrom, orElse, group-from, group-joined, lone-group}
+use Rattle.menus.proofs.Sets.{set-same}
+use Rattle.menus.proofs.Reading.{menu-read}
+use Rattle.menus.proofs.Places.{place-octet}
+use Rattle.records.specs.declared.Record.{Record}
+use Rattle.octets.specs.Lent.{Outcome, roomFault, put}
+use Rattle.offers.specs.Making.{menuOf, jmOffer, recordFault}
+use Rattle.offers.specs.Choosing.{onRead, choiceFor, chosenFrom}
+use Rattle.offers.proofs.Meaning.{same-offer}
+use Rattle.demands.specs.Incident.{unknownTag, IsGroup, Undefined, group, surplus, Extended, Ignored}
+
+-- what a reader takes of the first group of a tag, where one group stands between others
+module _ {A : Type 0} (say : List ℕ → A) (t : ℕ) (front rest : List ℕ) (ends : groupEnds rest 0 ≡ true) where
+  between : (octet : ℕ) (extensions : List ℕ) → IsGroup octet extensions
+      → groupFrom t (front ++ ((octet ∷ extensions) ++ rest)) ≡ orElse (groupFrom t front) (orElse (choose (opensGroup t octet) (octet ∷ extensions) []) (groupFrom t rest))
+  between octet extensions g =
+      group-joined t front ((octet ∷ extensions) ++ rest) (group-starts octet (extensions ++ rest) (g .opens))
+      ∙ ap (orElse (groupFrom t front))
+      (group-joined t (octet ∷ extensions) rest ends ∙ ap (λ (l : List ℕ). orElse l (groupFrom t rest)) (lone-group t octet extensions (g .opens) (g .extends)))
+
+  -- a group of another tag is passed over
+  passed : (octet : ℕ) (extensions : List ℕ) → IsGroup octet extensions → opensGroup t octet ≡ false → groupFrom t (front ++ ((octet ∷ extensions) ++ rest)) ≡ groupFrom t (front ++ rest)
+  unfolding choose
+  passed octet extensions g other = between octet extensions g ∙ simp other (sym (group-joined t front rest ends))
+
+  -- and longer groups are told apart from shorter ones only by who looks at their end
+  longer-by : (octet : ℕ) (short long first later : List ℕ) (test : Bool) → (test ≡ true → say (octet ∷ long) ≡ say (octet ∷ short))
+      → say (orElse first (orElse (choose test (octet ∷ long) []) later)) ≡ say (orElse first (orElse (choose test (octet ∷ short) []) later))
+  unfolding choose
+  longer-by octet short long [] later true e = e refl
+  longer-by octet short long [] later false e = refl
+  longer-by octet short long (b ∷ first) later true e = refl
+  longer-by octet short long (b ∷ first) later false e = refl
+
+  stretched : (octet : ℕ) (short long : List ℕ) → IsGroup octet short → IsGroup octet long → (opensGroup t octet ≡ true → say (octet ∷ long) ≡ say (octet ∷ short))
+      → say (groupFrom t (front ++ ((octet ∷ long) ++ rest))) ≡ say (groupFrom t (front ++ ((octet ∷ short) ++ rest)))
+  stretched octet short long g h e =
+      ap say (between octet long h) ∙ longer-by octet short long (groupFrom t front) (groupFrom t rest) (opensGroup t octet) e ∙ sym (ap say (between octet short g))
+
+-- offers that are read alike are the same
+module _ (a b : List ℕ) where
+  abbrev alike : {A : Type 0} → (List ℕ → A) → ℕ → Type 0
+  alike say t = say (groupOf a t) ≡ say (groupOf b t)
+
+  offer-same : optionsIn a ≡ optionsIn b → alike itemsOf modulation → alike optionsIn pcmTag → alike optionsIn protocol → alike optionsIn access → alike stands access → offerOf a ≡ offerOf b
+  offer-same function items pcm lapm options standing =
+      same-offer _ _ _ _ _ _ _ _ _ _ _ _ function items (ap₂ (λ (t : Bool) (n : ℕ). choose t n 0) standing pcm) (ap (λ (n : ℕ). eqb n 1) lapm) standing options
+
+-- the JM by what the heard menu's octets give
+abbrev jmBy : Record → List ℕ → ℕ → Offer → Outcome
+jmBy own out fault offer = put (before (recordFault own) (before fault (roomFault (menuOf (jmOffer own offer)) out))) (menuOf (jmOffer own offer)) out
+
+-- reading the same goes on to the same
+ignored-by : (menu longer : List ℕ) → listFault Reading menu ≡ 0 → listFault Reading longer ≡ 0 → offerOf longer ≡ offerOf menu → Ignored menu longer
+ignored-by menu longer read longer-read same =
+    let reads : menuRead longer ≡ menuRead menu = menu-read longer longer-read ∙ ap offers same ∙ sym (menu-read menu read) in
+    record {
+      read = reads;
+      jm = λ own out. ap₂ (jmBy own out) (longer-read ∙ sym read) same;
+      asked = λ jm. ap (λ (r : Read). onRead r (λ offer. choiceFor jm offer)) reads;
+      answered = λ cm. ap (λ (r : Read). onRead (menuRead cm) (λ offer. onRead r (λ answer. chosenFrom offer answer))) reads;
+    }
+
+-- what is put in is no fault
+module _ (c : ℕ) (a x b : List ℕ) (read : listFault Reading (c ∷ (a ++ b)) ≡ 0) (fine : firstFault Reading x ≡ 0) (short : length (c ∷ (a ++ (x ++ b))) ≤ 64) where
+  still-read : listFault Reading (c ∷ (a ++ (x ++ b))) ≡ 0
+  still-read =
+      let first = both-true _ _ (accepted-opens Reading (c ∷ (a ++ b)) read) in
+      let parts = faultless-parts Reading a b (accepted-rest Reading (c ∷ (a ++ b)) read) in
+      accepted-by Reading c (a ++ (x ++ b)) short (first .0) (eqb-true (tag c) 1 (first .1)) (faultless Reading a (x ++ b) (parts .0) (faultless Reading x b fine (parts .1)))
+
+every-joined : (e more : List ℕ) → every extension e ≡ true → every extension more ≡ true → every extension (e ++ more) ≡ true
+unfolding every both
+every-joined [] more h k = k
+every-joined (b ∷ e) more h k = let here = both-true (extension b) (every extension e) h in ap₂ both (here .0) (every-joined e more (here .1) k)
+
+-- items past the third octet are none
+items-same : (octet : ℕ) (e more : List ℕ) → 2 ≤ length e → itemsOf (octet ∷ (e ++ more)) ≡ itemsOf (octet ∷ e)
+unfolding hasItem
+items-same octet e more h =
+    set-same (hasItem (octet ∷ (e ++ more))) (hasItem (octet ∷ e)) 13
+    (λ i l. ap (λ (n : ℕ). eqb (bitOf (placeOf i .bit .0) n) 1) (List·getD-append (octet ∷ e) more 0 (placeOf i .octet) (omega (arith, place-octet i l, h))))
+
+both-neither : (a : Bool) → both a false ≡ false
+unfolding both
+both-neither true = refl
+both-neither false = refl
+
+-- a group with a tag outside the table
+other-tag : (octet t : ℕ) → not (eqb (tag octet) t) ≡ true → opensGroup t octet ≡ false
+unfolding both
+other-tag octet t n = ap (both (category octet)) (not-true _ n) ∙ both-neither (category octet)
+
+module _ (front rest : List ℕ) (octet : ℕ) (e : List ℕ) (ends : groupEnds rest 0 ≡ true) (g : IsGroup octet e) (unknown : unknownTag (tag octet) ≡ true) where
+  -- no group of the table is another
+  group-kept : (t : ℕ) → not (eqb (tag octet) t) ≡ true → groupOf (front ++ ((octet ∷ e) ++ rest)) t ≡ groupOf (front ++ rest) t
+  group-kept t n =
+      group-from (front ++ ((octet ∷ e) ++ rest)) t ∙ passed (λ (l : List ℕ). l) t front rest ends octet e g (other-tag octet t n) ∙ sym (group-from (front ++ rest) t)
+
+  unknown-offer : 0 < length front → offerOf (front ++ ((octet ∷ e) ++ rest)) ≡ offerOf (front ++ rest)
+  unfolding every
+  unknown-offer some =
+      let not-1 = both-true _ _ unknown in
+      let not-5 = both-true _ _ (not-1 .1) in
+      let not-7 = both-true _ _ (not-5 .1) in
+      let not-10 = both-true _ _ (not-7 .1) in
+      let not-13 = both-true _ _ (not-10 .1) in
+      let access-kept = group-kept access (not-13 .0) in
+      offer-same (front ++ ((octet ∷ e) ++ rest)) (front ++ rest)
+      (ap options (List·getD-append front ((octet ∷ e) ++ rest) 0 0 some ∙ sym (List·getD-append front rest 0 0 some)))
+      (ap itemsOf (group-kept modulation (not-5 .0))) (ap optionsIn (group-kept pcmTag (not-7 .0))) (ap optionsIn (group-kept protocol (not-10 .0)))
+      (ap optionsIn access-kept) (ap stands access-kept)
+
+-- extension octets past those defined
+module _ (front rest : List ℕ) (octet : ℕ) (e more : List ℕ) (ends : groupEnds rest 0 ≡ true) (g : IsGroup octet e) (extends : every extension more ≡ true) (past : tag octet ≡ modulation → 2 ≤ length e) where
+  longer : IsGroup octet (e ++ more)
+  longer = record { opens = g .opens; extends = every-joined e more (g .extends) extends }
+
+  said-same : {A : Type 0} (say : List ℕ → A) (t : ℕ) → (opensGroup t octet ≡ true → say (octet ∷ (e ++ more)) ≡ say (octet ∷ e))
+      → say (groupOf (front ++ ((octet ∷ (e ++ more)) ++ rest)) t) ≡ say (groupOf (front ++ ((octet ∷ e) ++ rest)) t)
+  said-same say t same =
+      ap say (group-from (front ++ ((octet ∷ (e ++ more)) ++ rest)) t) ∙ stretched say t front rest ends octet e (e ++ more) g longer same ∙ ap say (sym (group-from (front ++ ((octet ∷ e) ++ rest)) t))
+
+  first-same : (l : List ℕ) → getD (l ++ ((octet ∷ (e ++ more)) ++ rest)) 0 0 ≡ getD (l ++ ((octet ∷ e) ++ rest)) 0 0
+  first-same [] = refl
+  first-same (c ∷ l) = refl
+
+  surplus-offer : offerOf (front ++ ((octet ∷ (e ++ more)) ++ rest)) ≡ offerOf (front ++ ((octet ∷ e) ++ rest))
+  surplus-offer =
+      offer-same (front ++ ((octet ∷ (e ++ more)) ++ rest)) (front ++ ((octet ∷ e) ++ rest)) (ap options (first-same front))
+      (said-same itemsOf modulation (λ t. items-same octet e more (past (eqb-true _ _ (both-true _ _ t .1)))))
+      (said-same optionsIn pcmTag (λ _. refl)) (said-same optionsIn protocol (λ _. refl)) (said-same optionsIn access (λ _. refl)) (said-same stands access (λ _. lt-ltb 0 (length (octet ∷ (e ++ more))) (omega arith) ∙ sym (lt-ltb 0 (length (octet ∷ e)) (omega arith))))
+
+  surplus-read : (l : List ℕ) → listFault Reading (l ++ ((octet ∷ e) ++ rest)) ≡ 0 → length (l ++ ((octet ∷ (e ++ more)) ++ rest)) ≤ 64 → listFault Reading (l ++ ((octet ∷ (e ++ more)) ++ rest)) ≡ 0
+  surplus-read [] read short =
+      let apart : octet ∷ ((e ++ more) ++ rest) ≡ octet ∷ (e ++ (more ++ rest)) = ap (λ (t : List ℕ). octet ∷ t) (append-assoc e more rest) in
+      ap (listFault Reading) apart ∙ still-read octet e more rest read (extensions-fine Reading more extends) (subst (λ (t : List ℕ). length t ≤ 64) apart short)
+  surplus-read (c ∷ l) read short =
+      let apart : c ∷ (l ++ (octet ∷ ((e ++ more) ++ rest))) ≡ c ∷ ((l ++ (octet ∷ e)) ++ (more ++ rest)) = ap (λ (t : List ℕ). c ∷ (l ++ (octet ∷ t))) (append-assoc e more rest) ∙ ap (λ (t : List ℕ). c ∷ t) (sym (append-assoc l (octet ∷ e) (more ++ rest))) in
+      let whole : c ∷ ((l ++ (octet ∷ e)) ++ rest) ≡ c ∷ (l ++ ((octet ∷ e) ++ rest)) = ap (λ (t : List ℕ). c ∷ t) (append-assoc l (octet ∷ e) rest) in
+      ap (listFault Reading) apart ∙ still-read c (l ++ (octet ∷ e)) more rest (ap (listFault Reading) whole ∙ read) (extensions-fine Reading more extends) (subst (λ (t : List ℕ). length t ≤ 64) apart short)
+
+-- by what was put in
+unknown-read : (front rest x : List ℕ) → 0 < length front → listFault Reading (front ++ rest) ≡ 0 → firstFault Reading x ≡ 0 → length (front ++ (x ++ rest)) ≤ 64 → listFault Reading (front ++ (x ++ rest)) ≡ 0
+unknown-read [] rest x some read fine short = absurd (omega (arith, some))
+unknown-read (c ∷ a) rest x some read fine short = still-read c a x rest read fine short
+
+module _ (menu longer : List ℕ) (read : listFault Reading menu ≡ 0) (short : length longer ≤ 64) where
+  ignored-as : Undefined menu longer → Ignored menu longer
+  ignored-as (group front rest octet e some ends g unknown before-is longer-is) =
+      ignored-by menu longer read
+      (ap (listFault Reading) longer-is ∙ unknown-read front rest (octet ∷ e) some (ap (listFault Reading) (sym before-is) ∙ read) (group-fine Reading octet e (g .opens) (g .extends)) (subst (λ (t : List ℕ). length t ≤ 64) longer-is short))
+      (ap offerOf longer-is ∙ unknown-offer front rest octet e ends g unknown some ∙ ap offerOf (sym before-is))
+  ignored-as (surplus front rest octet e more ends g extends past before-is longer-is) =
+      ignored-by menu longer read
+      (ap (listFault Reading) longer-is ∙ surplus-read front rest octet e more ends g extends past front (ap (listFault Reading) (sym before-is) ∙ read) (subst (λ (t : List ℕ). length t ≤ 64) longer-is short))
+      (ap offerOf longer-is ∙ surplus-offer front rest octet e more ends g extends past ∙ ap offerOf (sym before-is))
+
+pub ignored : (menu longer : List ℕ) → Extended menu longer → Ignored menu longer
+ignored menu longer extended = ignored-as menu longer (extended .readable) (extended .short) (extended .undefined)
