@@ -208,9 +208,10 @@ module _ (caller answerer : Record) (function : ℕ) (call : Call caller answere
   }
 
   nothing-made : NothingShared caller answerer function → (jm .pcm ≡ 0) × (lowest (jm .items) ≡ 0)
-  nothing-made n =
-      (ap (withItem1 (inSet (sharedItems answers cm) 1)) (n .pcm) ∙ no-options (inSet (sharedItems answers cm) 1),
-      none-lowest (jm .items) 1 12 (λ i low high. item-as i low ∙ both-turned (inSet (asks .items) i) (inSet (answers .items) i) (sym (shared-as i) ∙ n .items i low high)))
+  nothing-made n = (
+    ap (withItem1 (inSet (sharedItems answers cm) 1)) (n .pcm) ∙ no-options (inSet (sharedItems answers cm) 1),
+    none-lowest (jm .items) 1 12 (λ i low high. item-as i low ∙ both-turned (inSet (asks .items) i) (inSet (answers .items) i) (sym (shared-as i) ∙ n .items i low high)),
+  )
 
   -- what both ends name
   abbrev sent : List ℕ

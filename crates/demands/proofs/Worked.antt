@@ -6,13 +6,14 @@ use Rattle.laws.specs.Tests.{every, sameList}
 use Rattle.octets.specs.Lists.{firstFault, untilCategory}
 use Rattle.sequences.specs.Line.{framed, framedAll, sequence, copies}
 use Rattle.octets.specs.Lent.{put}
-use Rattle.menus.specs.Items.{places, placeOf, hasItem, setOf, inSet}
+use Rattle.menus.specs.Items.{places, placeOf, hasItem, setOf, inSet, itemBits, modulationOctet}
 use Rattle.menus.specs.Groups.{firstGroup, frontPart, groupOf}
 use Rattle.menus.specs.Offer.{menuRead}
-use Rattle.offers.specs.Making.{paired}
+use Rattle.records.specs.Record.{modesAt, anyBad, badRecord}
+use Rattle.offers.specs.Making.{modulationGroup, joined, paired}
 use Rattle.offers.specs.Choosing.{lowestFrom, pcmChoice, itemChoice, chosenFrom}
 use Rattle.demands.specs.Worked.{holds, worked}
 
 pub worked-values-hold : T (every holds worked)
-unfolding choose both either every sameList firstFault untilCategory framed framedAll sequence copies put places placeOf hasItem setOf firstGroup frontPart groupOf menuRead inSet paired lowestFrom pcmChoice itemChoice chosenFrom
+unfolding choose both either every sameList firstFault untilCategory framed framedAll sequence copies put places placeOf hasItem setOf itemBits modulationOctet modesAt anyBad badRecord modulationGroup joined firstGroup frontPart groupOf menuRead inSet paired lowestFrom pcmChoice itemChoice chosenFrom
 worked-values-hold = tt

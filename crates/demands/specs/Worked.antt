@@ -1,15 +1,19 @@
 -- Document 01, 'Worked values': the lines marked P, as one table.
-use Prim.Native.Nat.{ℕ, _+_}
+use Prim.Native.Nat.{ℕ, _+_, _^_}
 use mathlib.Core.Bool.{Bool, true, false}
 use mathlib.Core.List.{List, [], _∷_}
 use lib.Dec.{eqb}
-use lib.ListN.{replicate}
+use lib.ListN.{length, replicate}
+use Rattle.laws.specs.Choice.{both}
 use Rattle.laws.specs.Tests.{sameList}
 use Rattle.octets.specs.declared.Kind.{Kind}
 use Rattle.octets.specs.declared.Kind.the-variants.{Ci, Menu}
 use Rattle.sequences.specs.Line.{sequence}
-use Rattle.octets.specs.Lent.{Said, count, refusal}
+use Rattle.octets.specs.Lent.{Said, count, refusal, Outcome}
 use Rattle.sequences.specs.Writing.{written}
+use Rattle.records.specs.declared.Record.{Record}
+use Rattle.records.specs.Record.{noModes}
+use Rattle.offers.specs.Making.{madeCm, madeJm}
 use Rattle.offers.specs.Choosing.{Chosen, none, item, pcm, choiceOf}
 use Rattle.offers.specs.Choosing as choosing
 
@@ -19,6 +23,10 @@ pub data Case : Type 0 where
   stands : Kind → List ℕ → List ℕ → Case
   -- a message's kind and octets, the copies, the bytes lent, and what the writer answers
   writes : Kind → List ℕ → ℕ → ℕ → Said → Case
+  -- a record, a function, and the CM that is made
+  asks : Record → ℕ → List ℕ → Case
+  -- a record, a heard CM, and the JM that is made
+  answers : Record → List ℕ → List ℕ → Case
   -- CM, JM, and the choice from them
   chooses : List ℕ → List ℕ → Chosen → Case
 
@@ -35,26 +43,67 @@ chosenNumber (item i) = i
 chosenNumber (pcm options) = 16 + options
 chosenNumber (choosing.refusal n) = 32 + n
 
+-- the menu stands in a buffer that has room for just that
+abbrev makes : Outcome → List ℕ → Bool
+makes laid menu = both (sameSaid (laid .answer) (count (length menu))) (sameList (laid .buffer) menu)
+
 -- the definitions give what the line says
 abbrev pub holds : Case → Bool
 holds (stands kind octets line) = sameList (sequence kind octets) line
+holds (asks own function menu) = makes (madeCm own function (replicate (length menu) 0)) menu
+holds (answers own heard menu) = makes (madeJm own heard (replicate (length menu) 0)) menu
 holds (chooses cm jm chosen) = eqb (chosenNumber (choiceOf cm jm)) (chosenNumber chosen)
 holds (writes kind octets n room said) = sameSaid (written kind octets n (replicate room 0) .answer) said
+
+-- a set of items
+abbrev set : List ℕ → ℕ
+set [] = 0
+set (i ∷ rest) = 2 ^ i + set rest
+
+-- a record with modes for data alone
+abbrev forData : List ℕ → ℕ → ℕ → ℕ → Record
+forData items options lapm digital = record {
+  functions = noModes ∷ noModes ∷ noModes ∷ noModes ∷ noModes ∷ record { available = 1; pcm = options; items = set items } ∷ [];
+  home = 6;
+  lapm = lapm;
+  access = 0;
+  cellular = 0;
+  digital = digital;
+}
 
 -- "CM of A is C1 45 13 90 2A"
 abbrev pub cmOfA : List ℕ
 cmOfA = 0xC1 ∷ 0x45 ∷ 0x13 ∷ 0x90 ∷ 0x2A ∷ []
 
+-- "C1 05 13 10", "C1 05 10 10"
+abbrev jmWith3 : List ℕ
+jmWith3 = 0xC1 ∷ 0x05 ∷ 0x13 ∷ 0x10 ∷ []
+
+abbrev jmWithNone : List ℕ
+jmWithNone = 0xC1 ∷ 0x05 ∷ 0x10 ∷ 0x10 ∷ []
+
+-- "C1 65 10 10 27 0D", "C1 65 10 10 47 8D"
+abbrev cmWithPcm : List ℕ
+cmWithPcm = 0xC1 ∷ 0x65 ∷ 0x10 ∷ 0x10 ∷ 0x27 ∷ 0x0D ∷ []
+
+abbrev jmWithPcm : List ℕ
+jmWithPcm = 0xC1 ∷ 0x65 ∷ 0x10 ∷ 0x10 ∷ 0x47 ∷ 0x8D ∷ []
+
 abbrev pub worked : List Case
 worked =
-    -- "CM of A is C1 45 13 90 2A, 70 bits."
-    writes Menu cmOfA 1 100 (count 70)
+    -- "Record A, data: items 1, 3, 4, 12, LAPM.", "CM of A is C1 45 13 90 2A, 70 bits."
+    asks (forData (1 ∷ 3 ∷ 4 ∷ 12 ∷ []) 0 1 0) 6 cmOfA
+    ∷ writes Menu cmOfA 1 100 (count 70)
     -- "answerer with items 3, 4, 8, no LAPM: JM C1 05 13 10, choice item 3."
-    ∷ chooses cmOfA (0xC1 ∷ 0x05 ∷ 0x13 ∷ 0x10 ∷ []) (item 3)
+    ∷ answers (forData (3 ∷ 4 ∷ 8 ∷ []) 0 0 0) cmOfA jmWith3
+    ∷ chooses cmOfA jmWith3 (item 3)
     -- "answerer with item 5 only: C1 05 10 10, choice none."
-    ∷ chooses cmOfA (0xC1 ∷ 0x05 ∷ 0x10 ∷ 0x10 ∷ []) none
-    -- "caller with item 1, analogue PCM: C1 65 10 10 27 0D. Answerer with .. digital PCM ..: C1 65 10 10 47 8D, choice PCM, b6."
-    ∷ chooses (0xC1 ∷ 0x65 ∷ 0x10 ∷ 0x10 ∷ 0x27 ∷ 0x0D ∷ []) (0xC1 ∷ 0x65 ∷ 0x10 ∷ 0x10 ∷ 0x47 ∷ 0x8D ∷ []) (pcm 2)
+    ∷ answers (forData (5 ∷ []) 0 0 0) cmOfA jmWithNone
+    ∷ chooses cmOfA jmWithNone none
+    -- "caller with item 1, analogue PCM: C1 65 10 10 27 0D. Answerer with items 1, 3, digital PCM, digital line: C1 65 10 10 47 8D, choice PCM, b6."
+    ∷ asks (forData (1 ∷ []) 1 0 0) 6 cmWithPcm
+    ∷ answers (forData (1 ∷ 3 ∷ []) 2 0 1) cmWithPcm jmWithPcm
+    ∷ chooses cmWithPcm jmWithPcm (pcm 2)
     -- "CI for data: 1111111111 0000000001 0100000111."
     ∷ stands Ci (0xC1 ∷ []) (1 ∷ 1 ∷ 1 ∷ 1 ∷ 1 ∷ 1 ∷ 1 ∷ 1 ∷ 1 ∷ 1 ∷ 0 ∷ 0 ∷ 0 ∷ 0 ∷ 0 ∷ 0 ∷ 0 ∷ 0 ∷ 0 ∷ 1 ∷ 0 ∷ 1 ∷ 0 ∷ 0 ∷ 0 ∷ 0 ∷ 0 ∷ 1 ∷ 1 ∷ 1 ∷ [])
     -- "64 octets accepted, 65 refused with 4."
