@@ -1,10 +1,10 @@
 -- The round trip: copies of an accepted message with ten 1s behind them. A fresh reader reports each copy, and nothing else.
 -- Assumes nothing.
-use Prim.Native.Nat.{ℕ, zero, suc, _≤_}
+use Prim.Native.Nat.{ℕ, zero, suc, _≤_, _+_}
 use native.Mathlib.Omega.{arith}
-use mathlib.Core.Path.{_≡_, refl, ap, _∙_}
+use mathlib.Core.Path.{_≡_, refl, ap, subst, _∙_}
 use mathlib.Core.Bool.{Bool, true, false}
-use mathlib.Core.List.{List, [], _∷_, _++_}
+use mathlib.Core.List.{List, [], _∷_, _++_, append-assoc}
 use borrow.Author.Tests.{eqb-true}
 use lib.Dec.{eqb, lit<}
 use lib.ListN.{length, take, drop, replicate}
@@ -14,14 +14,16 @@ use Rattle.laws.specs.Front.{front}
 use Rattle.octets.specs.declared.Kind.{Kind}
 use Rattle.octets.specs.declared.Purpose.the-variants.{Writing}
 use Rattle.octets.specs.Lists.{before, listFault}
-use Rattle.sequences.specs.Line.{framedAll, tenOnes, sequence, copies}
+use Rattle.sequences.specs.Line.{framedAll, tenOnes, sync, sequence, copies, cj}
+use Rattle.sequences.proofs.Lines.{copies-more}
 use Rattle.sequences.specs.Writing.{bits, refusal, Outcome, roomFault, put, written}
 use Rattle.listening.specs.declared.Listener.{Listener}
 use Rattle.listening.specs.Record.{empty, fresh}
-use Rattle.stretches.specs.Stretch.{octetsAll, Accepted}
+use Rattle.stretches.specs.Stretch.{octetsAll, Accepted, Nowhere}
 use Rattle.stretches.specs.Hearing.{Report, message, reports}
 use Rattle.stretches.specs.Demand.{RoundTrip}
 use Rattle.stretches.proofs.Each.{Each, none, more, each-append, Bits}
+use Rattle.stretches.proofs.Standing.{nowhere-left}
 use Rattle.stretches.proofs.Sound.{Sound, before-none, accepted-sound, accepted-length}
 use Rattle.stretches.proofs.Words.{no-cj}
 use Rattle.stretches.proofs.Plain.{plain, after, fresh-plain}
@@ -73,8 +75,15 @@ module _ (kind : Kind) (octets : List ℕ) (accepted : Accepted kind octets) whe
   all-copies zero rec i = ones-idle rec i
   all-copies (suc n) rec i = rw (← (replicate-more n (message kind octets))) (goes-on (goes-on (first-copy rec i) (later-copies n)) (ones-held kind octets))
 
+  -- the ten 1s behind the copies open one more
+  no-cj-behind : (n : ℕ) → Nowhere cj (copies n line ++ tenOnes)
+  unfolding sequence
+  no-cj-behind n =
+      let one-more : copies (n + 1) line ≡ copies n line ++ tenOnes ++ (sync kind ++ framedAll octets) = copies-more n line ∙ simp append-assoc in
+      nowhere-left cj (copies n line ++ tenOnes) (sync kind ++ framedAll octets) (subst (Nowhere cj) one-more (no-cj kind octets sound (n + 1)))
+
   pub copied : (n : ℕ) → reports fresh (copies n (sequence kind octets) ++ tenOnes) ≡ replicate n (message kind octets)
-  copied n = fresh-plain (copies n line ++ tenOnes) (each-append (copies-bits n) ones-bits) (no-cj kind octets sound n) ∙ all-copies n fresh fresh-idle .tells
+  copied n = fresh-plain (copies n line ++ tenOnes) (each-append (copies-bits n) ones-bits) (no-cj-behind n) ∙ all-copies n fresh fresh-idle .tells
 
 -- where the writer says how many bits it wrote, these stand at the front of its buffer
 abbrev laidDown : Bool → ℕ → List ℕ → List ℕ → Outcome

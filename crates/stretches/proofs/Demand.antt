@@ -1,40 +1,27 @@
 -- Demand 3: a long stretch of an accepted message, from any bit, gives the message back, and nothing else; no flag stands in it.
 -- Assumes nothing.
 use Prim.Native.Nat.{ℕ, zero, suc, _<_, _≤_, _+_, _*_, _-_}
-use native.Mathlib.Nat.{mul-le-mul-left}
 use native.Mathlib.Omega.{arith}
-use mathlib.Core.Path.{_≡_, refl, sym, ap, subst, _∙_}
-use mathlib.Core.List.{List, [], _∷_, _++_, append-assoc, append-nil}
+use mathlib.Core.Path.{_≡_, refl, sym, ap, _∙_}
+use mathlib.Core.List.{List, [], _∷_, _++_, append-assoc}
 use lib.ListN.{length, take, drop, replicate, length-append, length-drop, take-append-drop}
-use lib.Seq.{take-append-add, drop-drop}
+use lib.Seq.{take-append-add}
 use Rattle.octets.specs.declared.Kind.{Kind}
 use Rattle.sequences.specs.Line.{framedAll, tenOnes, sync, sequence, copies, cj}
-use Rattle.sequences.proofs.Lines.{sequence-length, copies-length}
+use Rattle.sequences.proofs.Lines.{sequence-length}
 use Rattle.listening.specs.Record.{fresh}
 use Rattle.stretches.specs.Stretch.{Accepted, stretch, Long, Nowhere, flag}
 use Rattle.stretches.specs.Hearing.{Report, message, Reads}
 use Rattle.stretches.specs.Demand.{Demand3}
 use Rattle.stretches.proofs.Each.{Each, each-drop, each-take}
-use Rattle.stretches.proofs.Standing.{nowhere-part}
+use Rattle.stretches.proofs.Standing.{nowhere-take, nowhere-drop}
 use Rattle.stretches.proofs.Sound.{Sound, accepted-sound}
 use Rattle.stretches.proofs.Words.{start, no-flag, no-cj, no-start}
 use Rattle.stretches.proofs.Plain.{plain, after, plain-append, fresh-plain}
 use Rattle.stretches.proofs.Sequences.{Goes, goes-on, Idle, Held, ones-held}
 use Rattle.stretches.proofs.Copies.{copies-bits, line-bits, first-copy, later-copies}
 use Rattle.stretches.proofs.Hunting.{fresh-hunts}
-use Rattle.stretches.proofs.Cuts.{cut-at}
-
--- parts of a list
-three-parts : (cut n : ℕ) (l rest : List ℕ) → take cut l ++ take n (drop cut l) ++ (drop n (drop cut l) ++ rest) ≡ l ++ rest
-three-parts cut n l rest =
-    append-assoc (take cut l) (take n (drop cut l)) (drop n (drop cut l) ++ rest)
-    ∙ ap (λ (k : List ℕ). take cut l ++ k) (sym (append-assoc (take n (drop cut l)) (drop n (drop cut l)) rest) ∙ ap (λ (k : List ℕ). k ++ rest) (take-append-drop n (drop cut l)))
-    ∙ sym (append-assoc (take cut l) (drop cut l) rest) ∙ ap (λ (k : List ℕ). k ++ rest) (take-append-drop cut l)
-
-nowhere-stretch : (word line : List ℕ) (cut n : ℕ) → Nowhere word (copies (cut + n) line ++ tenOnes) → Nowhere word (stretch line cut n)
-nowhere-stretch word line cut n never =
-    let all = copies (cut + n) line in
-    nowhere-part word (take cut all) (stretch line cut n) (drop n (drop cut all) ++ tenOnes) (subst (Nowhere word) (sym (three-parts cut n all tenOnes)) never)
+use Rattle.stretches.proofs.Cuts.{enough, cut-at}
 
 -- the first entries of one repeated
 prefix : (xs ys : List Report) (n : ℕ) (r : Report) → xs ++ ys ≡ replicate n r → xs ≡ replicate (length xs) r
@@ -44,9 +31,6 @@ prefix (x ∷ xs) ys (suc n) r e = let first : x ≡ r = cc in let rest = prefix
 
 regroup : (a l t s f c : List ℕ) → a ++ (l ++ (t ++ s ++ f ++ c)) ≡ a ++ l ++ t ++ (s ++ f ++ c)
 regroup a l t s f c = simp append-assoc
-
-one-more : (n : ℕ) → suc n ≡ 1 + n
-one-more n = omega arith
 
 module _ (kind : Kind) (octets : List ℕ) (accepted : Accepted kind octets) where
   abbrev line : List ℕ
@@ -63,14 +47,9 @@ module _ (kind : Kind) (octets : List ℕ) (accepted : Accepted kind octets) whe
   Repeats bits = (again : ℕ) × (plain fresh bits ≡ replicate (suc again) told)
 
   -- a sequence that lacks its first bit and perhaps others is passed over
-  no-start-left : (lost : ℕ) → Nowhere start (drop (suc lost) line)
-  no-start-left lost =
-      let suffix : drop (suc lost) line ≡ drop lost (drop 1 line) = ap (λ (k : ℕ). drop k line) (one-more lost) ∙ sym (drop-drop lost 1 line) in
-      let whole : take lost (drop 1 line) ++ drop (suc lost) line ++ [] ≡ drop 1 line = append-nil _ ∙ ap (λ (l : List ℕ). take lost (drop 1 line) ++ l) suffix ∙ take-append-drop lost (drop 1 line) in
-      nowhere-part start (take lost (drop 1 line)) (drop (suc lost) line) [] (subst (Nowhere start) (sym whole) (no-start kind octets sound))
-
   passed-over : (lost : ℕ) → Goes fresh (drop (suc lost) line) [] Idle
-  passed-over lost = fresh-hunts (drop (suc lost) line) (each-drop (suc lost) line (line-bits kind octets accepted)) (no-start-left lost)
+  unfolding sequence
+  passed-over lost = fresh-hunts (drop (suc lost) line) (each-drop (suc lost) line (line-bits kind octets accepted)) (nowhere-drop start lost (drop 1 line) (no-start kind octets sound))
 
   -- and then come copies
   cut-copies : (lost n : ℕ) → Goes fresh (drop (suc lost) line ++ copies (suc n) line) (replicate n told) (Held kind octets)
@@ -122,9 +101,6 @@ module _ (kind : Kind) (octets : List ℕ) (accepted : Accepted kind octets) whe
   some : 0 < length line
   some = omega (arith, sequence-length kind octets)
 
-  enough : (cut n : ℕ) → n ≤ length (drop cut (copies (cut + n) line))
-  enough cut n = omega (arith, length-drop cut (copies (cut + n) line), copies-length (cut + n) line, mul-le-mul-left (cut + n) some)
-
   by-whole : (n lost whole : ℕ) → lost < length line → Long (sequence kind octets) n → n ≤ length (drop (suc lost) line ++ copies whole line) → Repeats (take n (drop (suc lost) line ++ copies whole line))
   unfolding copies
   by-whole n lost zero few long h = absurd (omega (arith, length-append (drop (suc lost) line) [], length-drop (suc lost) line))
@@ -134,16 +110,20 @@ module _ (kind : Kind) (octets : List ℕ) (accepted : Accepted kind octets) whe
   stretch-told : (cut n : ℕ) → Long (sequence kind octets) n → Repeats (stretch line cut n)
   stretch-told cut n long =
       let c = cut-at line some (cut + n) cut in
-      rw (c .is) (by-whole n (c .lost) (c .whole) (c .few) long (rw (c .is) at (enough cut n)))
+      rw (c .is) (by-whole n (c .lost) (c .whole) (c .few) long (rw (c .is) at (enough line some cut n)))
 
   reads : (cut n : ℕ) → Long (sequence kind octets) n → Reads kind octets (stretch (sequence kind octets) cut n)
   reads cut n long =
+      let all = copies (cut + n) line in
+      let bits = each-take n (drop cut all) (each-drop cut all (copies-bits kind octets accepted (cut + n))) in
+      let never = nowhere-take cj n (drop cut all) (nowhere-drop cj cut all (no-cj kind octets sound (cut + n))) in
       let tells = stretch-told cut n long in
-      let bits = each-take n (drop cut (copies (cut + n) line)) (each-drop cut (copies (cut + n) line) (copies-bits kind octets accepted (cut + n))) in
-      record { again = tells .0; all = fresh-plain (stretch line cut n) bits (nowhere-stretch cj line cut n (no-cj kind octets sound (cut + n))) ∙ tells .1 }
+      record { again = tells .0; all = fresh-plain (stretch line cut n) bits never ∙ tells .1 }
 
   flagless : (cut n : ℕ) → Nowhere flag (stretch (sequence kind octets) cut n)
-  flagless cut n = nowhere-stretch flag line cut n (no-flag kind octets sound (cut + n))
+  flagless cut n =
+      let all = copies (cut + n) line in
+      nowhere-take flag n (drop cut all) (nowhere-drop flag cut all (no-flag kind octets sound (cut + n)))
 
 -- the same bits are read as the same message
 told-apart : (kind kind′ : Kind) (octets octets′ bits : List ℕ) → Reads kind octets bits → Reads kind′ octets′ bits → (kind ≡ kind′) × (octets ≡ octets′)

@@ -14,6 +14,10 @@ use Rattle.listening.specs.Framing.{pushed, lastTen}
 use Rattle.listening.proofs.Words.{hearing}
 use Rattle.stretches.proofs.Each.{none, more, Bits}
 
+-- a past is a number of 32 bits
+abbrev pub Small : ℕ → Type 0
+Small p = p < 4294967296
+
 -- the lowest bits of a number, lowest first, and the number of such bits
 unfoldable lows : ℕ → ℕ → List ℕ
 lows zero x = []
@@ -43,10 +47,10 @@ lows-top (suc n) y b h k =
     let high : (y + b * 2 ^ suc n) / 2 ≡ y / 2 + b * 2 ^ n = omega arith in
     ap₂ _∷_ low (ap (lows (suc n)) high ∙ lows-top n (y / 2) b (omega arith) k)
 
-pushed-small : (p b : ℕ) → p < 4294967296 → b < 2 → pushed p b < 4294967296
+pushed-small : (p b : ℕ) → Small p → b < 2 → Small (pushed p b)
 pushed-small p b h k = omega arith
 
-pub hearing-small : (p : ℕ) (q : List ℕ) → p < 4294967296 → Bits q → hearing p q < 4294967296
+pub hearing-small : (p : ℕ) (q : List ℕ) → Small p → Bits q → Small (hearing p q)
 hearing-small p [] h none = h
 hearing-small p (b ∷ q) h (more low bits) = hearing-small (pushed p b) q (pushed-small p b h low) bits
 
@@ -55,8 +59,8 @@ hearing-append p [] b = refl
 hearing-append p (bit ∷ a) b = hearing-append (pushed p bit) a b
 
 -- a part of the past into which each bit comes on top
-module _ (k : ℕ) (part : ℕ → ℕ) (shifts : (p b : ℕ) → part (pushed p b) ≡ part p / 2 + b * 2 ^ k) (small : (p : ℕ) → p < 4294967296 → part p < 2 ^ suc k) where
-  part-heard : (p : ℕ) (q : List ℕ) → p < 4294967296 → Bits q → lows (suc k) (part (hearing p q)) ≡ drop (length q) (lows (suc k) (part p) ++ q)
+module _ (k : ℕ) (part : ℕ → ℕ) (shifts : (p b : ℕ) → part (pushed p b) ≡ part p / 2 + b * 2 ^ k) (small : (p : ℕ) → Small p → part p < 2 ^ suc k) where
+  part-heard : (p : ℕ) (q : List ℕ) → Small p → Bits q → lows (suc k) (part (hearing p q)) ≡ drop (length q) (lows (suc k) (part p) ++ q)
   unfolding lows
   part-heard p [] h none = sym (append-nil (lows (suc k) (part p)))
   part-heard p (b ∷ q) h (more low bits) =
@@ -66,14 +70,14 @@ module _ (k : ℕ) (part : ℕ → ℕ) (shifts : (p b : ℕ) → part (pushed p
       ∙ ap (drop (length q)) (append-assoc (lows k (part p / 2)) (b ∷ []) q)
 
 -- the last ten and the last thirty
-last-ten : (p : ℕ) (q : List ℕ) → p < 4294967296 → Bits q → lows 10 (lastTen (hearing p q)) ≡ drop (length q) (lows 10 (lastTen p) ++ q)
+last-ten : (p : ℕ) (q : List ℕ) → Small p → Bits q → lows 10 (lastTen (hearing p q)) ≡ drop (length q) (lows 10 (lastTen p) ++ q)
 last-ten = part-heard 9 lastTen (λ p b. omega arith) (λ p h. omega arith)
 
-last-thirty : (p : ℕ) (q : List ℕ) → p < 4294967296 → Bits q → lows 30 (hearing p q / 4) ≡ drop (length q) (lows 30 (p / 4) ++ q)
+last-thirty : (p : ℕ) (q : List ℕ) → Small p → Bits q → lows 30 (hearing p q / 4) ≡ drop (length q) (lows 30 (p / 4) ++ q)
 last-thirty = part-heard 29 (λ (p : ℕ). p / 4) (λ p b. omega arith) (λ p h. omega arith)
 
 -- ten bits, whatever was heard before
-pub ten-heard : (p : ℕ) (w : List ℕ) → p < 4294967296 → Bits w → length w ≡ 10 → lastTen (hearing p w) ≡ value w
+pub ten-heard : (p : ℕ) (w : List ℕ) → Small p → Bits w → length w ≡ 10 → lastTen (hearing p w) ≡ value w
 ten-heard p w h bits ten =
     let small : lastTen (hearing p w) < 2 ^ 10 = omega (arith, hearing-small p w h bits) in
     sym (value-lows 10 (lastTen (hearing p w)) small)

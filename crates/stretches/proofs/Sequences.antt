@@ -26,7 +26,7 @@ use Rattle.listening.proofs.Words.{hearing}
 use Rattle.stretches.specs.Hearing.{Report, message}
 use Rattle.stretches.proofs.Each.{Each, none, more, Bits, bits-by}
 use Rattle.stretches.proofs.Sound.{Sound, sound-shape}
-use Rattle.stretches.proofs.Past.{value, hearing-small, hearing-append, ten-heard}
+use Rattle.stretches.proofs.Past.{Small, value, hearing-small, hearing-append, ten-heard}
 use Rattle.stretches.proofs.Plain.{plain, after, plain-append, after-append}
 
 -- bits that bring these reports, and leave such a record
@@ -96,7 +96,10 @@ sync-last Ci p m e (here h last) = record { tells = rw (synced-as Ci (pushed p 1
 sync-last Menu p m e (here h last) = record { tells = rw (synced-as Menu (pushed p 1) e); leaves = rw (synced-as Menu (pushed p 1) e) (here _ last) }
 
 -- an octet: its start bit and data bits, and its stop bit
-octet-data : (b p : ℕ) (m : Message) {rec : Listener} → At 10 p m rec → Goes rec (0 ∷ b0 b ∷ b1 b ∷ b2 b ∷ b3 b ∷ b4 b ∷ b5 b ∷ b6 b ∷ b7 b ∷ []) [] (At 19 (hearing p (0 ∷ b0 b ∷ b1 b ∷ b2 b ∷ b3 b ∷ b4 b ∷ b5 b ∷ b6 b ∷ b7 b ∷ [])) m)
+abbrev unstopped : ℕ → List ℕ
+unstopped b = 0 ∷ b0 b ∷ b1 b ∷ b2 b ∷ b3 b ∷ b4 b ∷ b5 b ∷ b6 b ∷ b7 b ∷ []
+
+octet-data : (b p : ℕ) (m : Message) {rec : Listener} → At 10 p m rec → Goes rec (unstopped b) [] (At 19 (hearing p (unstopped b)) m)
 unfolding plain after acted turned bounded told changed choose
 octet-data b p m (here h last) = record { tells = refl; leaves = here _ last }
 
@@ -126,10 +129,10 @@ unfolding every both framed allBelow
 framed-bits b h = bits-by (framed b) (below (λ (n : ℕ). every (λ (bit : ℕ). ltb bit 2) (framed n)) 256 tt b h)
 
 -- their numbers, whatever was heard before
-ones-number : (p : ℕ) → p < 4294967296 → lastTen (hearing p tenOnes) ≡ 1023
+ones-number : (p : ℕ) → Small p → lastTen (hearing p tenOnes) ≡ 1023
 ones-number p h = ten-heard p tenOnes h ones-bits refl
 
-sync-number : (kind : Kind) (p : ℕ) → p < 4294967296 → lastTen (hearing p (sync kind)) ≡ syncTen kind
+sync-number : (kind : Kind) (p : ℕ) → Small p → lastTen (hearing p (sync kind)) ≡ syncTen kind
 sync-number Ci p h = ten-heard p (sync Ci) h (sync-bits Ci) refl
 sync-number Menu p h = ten-heard p (sync Menu) h (sync-bits Menu) refl
 
@@ -137,7 +140,7 @@ framed-value : (b : ℕ) → b < 256 → value (framed b) ≡ 512 + 2 * b
 unfolding framed both allBelow
 framed-value b h = eqb→eq _ _ (below (λ (n : ℕ). eqb (value (framed n)) (512 + 2 * n)) 256 tt b h)
 
-octet-number : (b p : ℕ) → b < 256 → p < 4294967296 → octetOf (hearing p (framed b)) ≡ b
+octet-number : (b p : ℕ) → b < 256 → Small p → octetOf (hearing p (framed b)) ≡ b
 unfolding framed
 octet-number b p small h = omega (arith, ten-heard p (framed b) h (framed-bits b small) refl ∙ framed-value b small)
 
@@ -146,7 +149,7 @@ pub record Idle (rec : Listener) : Type 0 where
   pub p : ℕ
   pub m : Message
   pub place : At 0 p m rec
-  pub small : p < 4294967296
+  pub small : Small p
   pub full : length (m .octets) ≡ 64
 
 -- hunting, behind ten 1s
@@ -160,13 +163,13 @@ pub record Held (kind : Kind) (octets : List ℕ) (rec : Listener) : Type 0 wher
   pub len : ℕ
   pub array : List ℕ
   pub place : At 10 p (holding kind len array) rec
-  pub small : p < 4294967296
+  pub small : Small p
   pub full : length array ≡ 64
   pub count : len ≡ length octets
   pub stored : take len array ≡ octets
 
 -- behind ten 1s a record is primed
-prime : (p : ℕ) (m : Message) → p < 4294967296 → length (m .octets) ≡ 64 → (rec : Listener) → At 0 (hearing p tenOnes) m rec → Primed rec
+prime : (p : ℕ) (m : Message) → Small p → length (m .octets) ≡ 64 → (rec : Listener) → At 0 (hearing p tenOnes) m rec → Primed rec
 prime p m small full rec place = record {
   idle = record { p = hearing p tenOnes; m = m; place = place; small = hearing-small p tenOnes small ones-bits; full = full };
   ones = ones-number p small;
@@ -187,7 +190,7 @@ sync-primed kind rec r =
     let i = r .idle in
     let q = hearing (pushed (i .p) 0) (between kind) in
     let whole : pushed q 1 ≡ hearing (i .p) (sync kind) = sym (hearing-append (pushed (i .p) 0) (between kind) (1 ∷ [])) ∙ ap (hearing (i .p)) (sync-whole kind) in
-    let small : pushed q 1 < 4294967296 = rw whole (hearing-small (i .p) (sync kind) (i .small) (sync-bits kind)) in
+    let small : Small (pushed q 1) = rw whole (hearing-small (i .p) (sync kind) (i .small) (sync-bits kind)) in
     subst (λ (w : List ℕ). Goes rec w [] (Held kind [])) (sync-whole kind)
     (goes-on (goes-on (sync-first (i .p) (i .m) (r .ones) (i .place)) (λ next place. sync-between kind (pushed (i .p) 0) (i .m) place))
     (λ next place.
@@ -197,7 +200,7 @@ sync-primed kind rec r =
 octet-held : (kind : Kind) (octets : List ℕ) (b : ℕ) (rec : Listener) → Sound b → length octets < 64 → Held kind octets rec → Goes rec (framed b) [] (Held kind (octets ++ b ∷ []))
 unfolding framed
 octet-held kind octets b rec s room h =
-    let q = hearing (h .p) (0 ∷ b0 b ∷ b1 b ∷ b2 b ∷ b3 b ∷ b4 b ∷ b5 b ∷ b6 b ∷ b7 b ∷ []) in
+    let q = hearing (h .p) (unstopped b) in
     goes-on (octet-data b (h .p) (holding kind (h .len) (h .array)) (h .place))
     (λ next place.
     goes-with (octet-stop b q (h .len) kind (h .array) (octet-number b (h .p) (s .small) (h .small)) (sound-shape s) (omega (arith, h .count)) place)
@@ -212,7 +215,7 @@ octet-held kind octets b rec s room h =
       stored = rw add-one (take-suc-set (h .array) (h .len) b (omega (arith, h .count, h .full))) ∙ ap (λ (l : List ℕ). l ++ b ∷ []) (h .stored);
     }))
 
-octets-held : (kind : Kind) (octets more-octets : List ℕ) (rec : Listener) → Each Sound more-octets → length octets + length more-octets ≤ 64 → Held kind octets rec → Goes rec (framedAll more-octets) [] (Held kind (octets ++ more-octets))
+octets-held : (kind : Kind) (octets later : List ℕ) (rec : Listener) → Each Sound later → length octets + length later ≤ 64 → Held kind octets rec → Goes rec (framedAll later) [] (Held kind (octets ++ later))
 unfolding framedAll plain after
 octets-held kind octets [] rec none room h = record { tells = refl; leaves = rw append-nil h }
 octets-held kind octets (b ∷ bs) rec (more s ss) room h =

@@ -2,11 +2,11 @@
 -- Assumes nothing.
 use Prim.Native.Nat.{ℕ, suc, _<_}
 use native.Mathlib.Omega.{arith}
-use mathlib.Core.Path.{_≡_, refl, sym, ap, _∙_}
+use mathlib.Core.Path.{_≡_, refl, sym, ap, subst, _∙_}
 use mathlib.Core.Bool.{Bool}
 use mathlib.Core.List.{List, [], _∷_, _++_, append-assoc}
 use lib.Dec.{T, eqb, ltb, eqb→eq, ltb→lt}
-use lib.ListN.{getD}
+use lib.ListN.{take, drop, getD, take-append-drop}
 use Rattle.laws.specs.Choice.{choose, both}
 use Rattle.laws.specs.Tests.{allBelow}
 use Rattle.laws.proofs.Chosen.{chosen}
@@ -14,10 +14,20 @@ use Rattle.laws.proofs.Computed.{both-left, both-right, below}
 use Rattle.stretches.specs.Stretch.{Nowhere}
 
 -- what stands nowhere in a list stands nowhere in a part of it
-pub nowhere-part : (word a b c : List ℕ) → Nowhere word (a ++ b ++ c) → Nowhere word b
-nowhere-part word a b c n before after e =
-    let outer : (a ++ before) ++ word ++ (after ++ c) ≡ a ++ (before ++ word ++ after) ++ c = simp append-assoc in
-    n (a ++ before) (after ++ c) (outer ∙ ap (λ (l : List ℕ). a ++ l ++ c) e)
+module _ (word : List ℕ) where
+  pub nowhere-left : (a b : List ℕ) → Nowhere word (a ++ b) → Nowhere word a
+  nowhere-left a b never before after e = never before (after ++ b) (sym (append-assoc (before ++ word) after b) ∙ ap (λ (l : List ℕ). l ++ b) e)
+
+  pub nowhere-right : (a b : List ℕ) → Nowhere word (a ++ b) → Nowhere word b
+  nowhere-right a b never before after e =
+      let outer : a ++ before ++ word ++ after ≡ a ++ (before ++ word ++ after) = simp append-assoc in
+      never (a ++ before) after (outer ∙ ap (λ (l : List ℕ). a ++ l) e)
+
+  pub nowhere-take : (n : ℕ) (l : List ℕ) → Nowhere word l → Nowhere word (take n l)
+  nowhere-take n l never = nowhere-left (take n l) (drop n l) (subst (Nowhere word) (sym (take-append-drop n l)) never)
+
+  pub nowhere-drop : (n : ℕ) (l : List ℕ) → Nowhere word l → Nowhere word (drop n l)
+  nowhere-drop n l never = nowhere-right (take n l) (drop n l) (subst (Nowhere word) (sym (take-append-drop n l)) never)
 
 -- the states that follow a 0 and a 1; the last state is where the word has stood
 pub record Table : Type 0 where

@@ -1,11 +1,11 @@
--- Three words that stand nowhere: the flag and CJ in copies of an accepted message with ten 1s behind them; and ten 1s with a 0 behind
--- them in a copy that lacks its first bit.
+-- Three words that stand nowhere: the flag and CJ in copies of an accepted message; ten 1s with a 0 behind them in a copy that lacks its
+-- first bit.
 -- Assumes nothing.
 use Prim.Native.Nat.{ℕ, zero, suc, _<_}
 use native.Mathlib.Omega.{arith}
 use mathlib.Core.Path.{sym, subst}
 use mathlib.Core.Bool.{Bool}
-use mathlib.Core.List.{List, [], _∷_, _++_, append-nil}
+use mathlib.Core.List.{List, [], _∷_, _++_}
 use lib.Dec.{T, ltb, ltb→lt, lit<}
 use lib.ListN.{drop, replicate}
 use Rattle.laws.specs.Choice.{choose, both, either}
@@ -16,7 +16,7 @@ use Rattle.octets.specs.declared.Kind.the-variants.{Ci, Menu}
 use Rattle.sequences.specs.Line.{framed, framedAll, tenOnes, sync, sequence, copies, cj}
 use Rattle.stretches.specs.Stretch.{Nowhere, flag}
 use Rattle.stretches.proofs.Each.{Each, none, more}
-use Rattle.stretches.proofs.Standing.{Table, run, run-append, nowhere-part, nowhere}
+use Rattle.stretches.proofs.Standing.{Table, run, run-append, nowhere-right, nowhere}
 use Rattle.stretches.proofs.Sound.{implies, implied, soundly, Sound}
 
 -- a piece of the line that leads from each of the first states to one of them
@@ -62,10 +62,6 @@ module _ (t : Table) (good : ℕ) where
   copies-keep line k zero = nothing-keeps
   copies-keep line k (suc n) = both-keep line (copies n line) k (copies-keep line k n)
 
-  copied : T (linesKeep t good tenOnes) → T (keeps t good tenOnes) → (kind : Kind) (octets : List ℕ) → Each Sound octets → (n : ℕ) → Keeps (copies n (sequence kind octets) ++ tenOnes)
-  unfolding sequence
-  copied k e kind octets o n = both-keep (copies n (sequence kind octets)) tenOnes (copies-keep (sequence kind octets) (lines-keep tenOnes k kind octets o) n) (kept tenOnes e)
-
 -- the flag: up to five 1s since the last 0; seven or more, or no 0 yet; six; the flag has stood
 abbrev flags : Table
 flags = record { zeros = 0 ∷ 0 ∷ 0 ∷ 0 ∷ 0 ∷ 0 ∷ 0 ∷ 8 ∷ 8 ∷ []; ones = 1 ∷ 2 ∷ 3 ∷ 4 ∷ 5 ∷ 7 ∷ 6 ∷ 6 ∷ 8 ∷ []; last = 8 }
@@ -87,13 +83,13 @@ abbrev pub start : List ℕ
 start = tenOnes ++ 0 ∷ []
 
 module _ (kind : Kind) (octets : List ℕ) (sound : Each Sound octets) where
-  pub no-flag : (n : ℕ) → Nowhere flag (copies n (sequence kind octets) ++ tenOnes)
+  pub no-flag : (n : ℕ) → Nowhere flag (copies n (sequence kind octets))
   unfolding run choose both either allBelow framed sequence
-  no-flag n = nowhere flag flags tt _ 0 (lit< tt) (omega (arith, copied flags 7 tt tt kind octets sound n 0 (lit< tt)))
+  no-flag n = nowhere flag flags tt _ 0 (lit< tt) (omega (arith, copies-keep flags 7 (sequence kind octets) (lines-keep flags 7 tenOnes tt kind octets sound) n 0 (lit< tt)))
 
-  pub no-cj : (n : ℕ) → Nowhere cj (copies n (sequence kind octets) ++ tenOnes)
+  pub no-cj : (n : ℕ) → Nowhere cj (copies n (sequence kind octets))
   unfolding run choose both either allBelow framed framedAll sequence cj
-  no-cj n = nowhere cj cjs tt _ 0 (lit< tt) (omega (arith, copied cjs 2 tt tt kind octets sound n 0 (lit< tt)))
+  no-cj n = nowhere cj cjs tt _ 0 (lit< tt) (omega (arith, copies-keep cjs 2 (sequence kind octets) (lines-keep cjs 2 tenOnes tt kind octets sound) n 0 (lit< tt)))
 
   -- a copy with 0 for its first bit
   spoiled : Nowhere start (0 ∷ drop 1 (sequence kind octets))
@@ -101,4 +97,4 @@ module _ (kind : Kind) (octets : List ℕ) (sound : Each Sound octets) where
   spoiled = nowhere start starts tt _ 0 (lit< tt) (omega (arith, lines-keep starts 10 (0 ∷ replicate 9 1) tt kind octets sound 0 (lit< tt)))
 
   pub no-start : Nowhere start (drop 1 (sequence kind octets))
-  no-start = nowhere-part start (0 ∷ []) (drop 1 (sequence kind octets)) [] (rw append-nil spoiled)
+  no-start = nowhere-right start (0 ∷ []) (drop 1 (sequence kind octets)) spoiled

@@ -1,10 +1,10 @@
 -- A message repeated without end, and stretches of it.
-use Prim.Native.Nat.{ℕ, _+_, _*_, _≤_}
+use Prim.Native.Nat.{ℕ, _+_, _*_, _%_, _<_, _≤_}
 use mathlib.Core.Path.{_≡_}
 use mathlib.Core.Bool.{Bool, true}
 use mathlib.Core.List.{List, [], _∷_, _++_}
 use lib.Dec.{ltb}
-use lib.ListN.{length, take, drop}
+use lib.ListN.{length, take, drop, getD}
 use Rattle.laws.specs.Tests.{every}
 use Rattle.octets.specs.declared.Kind.{Kind}
 use Rattle.octets.specs.declared.Purpose.the-variants.{Writing}
@@ -23,6 +23,11 @@ pub record Accepted (kind : Kind) (octets : List ℕ) : Type 0 where
 -- n bits, from the bit `cut` on, of a line that is repeated without end: cut + n copies are enough of it
 abbrev pub stretch : List ℕ → ℕ → ℕ → List ℕ
 stretch line cut n = take n (drop cut (copies (cut + n) line))
+
+-- the same, bit by bit: behind the line's last bit comes its first again
+pub record Endless (line : List ℕ) (cut n : ℕ) : Type 0 where
+  pub size : length (stretch line cut n) ≡ n
+  pub bit : (i : ℕ) → i < n → getD (stretch line cut n) i 0 ≡ getD line ((cut + i) % length line) 0
 
 -- twice the line and ten bits long, or longer
 abbrev pub Long : List ℕ → ℕ → Type 0
