@@ -1,0 +1,11 @@
+pub mod Each
+pub mod Standing
+pub mod Sound
+pub mod Words
+pub mod Past
+pub mod Plain
+pub mod Sequences
+pub mod Copies
+pub mod Hunting
+pub mod Cuts
+pub mod Demand

@@ -1,0 +1,97 @@
+-- The octets of an accepted message: each is one that reading stores, and none is 0.
+-- Assumes nothing.
+use Prim.Native.Nat.{ℕ, _<_, _≤_}
+use native.Mathlib.Omega.{arith}
+use mathlib.Core.Path.{_≡_, refl}
+use mathlib.Core.Bool.{Bool, true, false, not}
+use mathlib.Core.List.{List, [], _∷_}
+use borrow.Author.Tests.{ltb-true, eqb-true, not-true, eq-eqb}
+use lib.Dec.{T, eqb, ltb}
+use lib.ListN.{length, drop}
+use Rattle.laws.specs.Choice.{choose, both, either}
+use Rattle.laws.specs.Tests.{allBelow, every}
+use Rattle.laws.proofs.Chosen.{both-true}
+use Rattle.laws.proofs.Computed.{below}
+use Rattle.octets.specs.declared.Kind.{Kind}
+use Rattle.octets.specs.declared.Kind.the-variants.{Ci, Menu}
+use Rattle.octets.specs.declared.Purpose.{Purpose}
+use Rattle.octets.specs.declared.Purpose.the-variants.{Writing}
+use Rattle.octets.specs.Octets.{bad}
+use Rattle.octets.specs.Lists.{octetFault, firstFault, opens}
+use Rattle.octets.proofs.Lists.{accepted-short}
+use Rattle.stretches.specs.Stretch.{octetsAll, Accepted}
+use Rattle.stretches.proofs.Each.{Each, none, more}
+
+-- where the first test holds, so does the second
+abbrev pub implies : Bool → Bool → Bool
+implies a b = choose a b true
+
+pub implied : (a b : Bool) → T (implies a b) → a ≡ true → T b
+unfolding choose
+implied true b t e = t
+implied false b t e = absurd (let z : _≡_ {A = ℕ} 0 1 = cc in let w : ⊥ = omega arith in w)
+
+-- an octet that reading stores, and that is not 0
+abbrev pub soundly : ℕ → Bool
+soundly b = both (not (bad b)) (ltb 0 b)
+
+pub record Sound (b : ℕ) : Type 0 where
+  pub small : b < 256
+  pub test : soundly b ≡ true
+
+pub sound-shape : {b : ℕ} → Sound b → bad b ≡ false
+sound-shape s = not-true _ (both-true _ _ (s .test) .0)
+
+truly : (b : Bool) → T b → b ≡ true
+truly true t = refl
+truly false t = absurd t
+
+-- what the writer accepts is sound: computed at each octet
+first-sound : (b : ℕ) → b < 256 → opens (b ∷ []) ≡ true → Sound b
+unfolding choose both either allBelow
+first-sound b h e = record { small = h; test = truly _ (implied _ _ (below (λ (k : ℕ). implies (opens (k ∷ [])) (soundly k)) 256 tt b h) e) }
+
+abbrev laterSound : Kind → ℕ → Bool
+laterSound kind b = implies (eqb (octetFault (Writing kind) b) 0) (soundly b)
+
+later-test : (kind : Kind) (b : ℕ) → b < 256 → T (laterSound kind b)
+unfolding choose both either allBelow
+later-test Ci b h = below (laterSound Ci) 256 tt b h
+later-test Menu b h = below (laterSound Menu) 256 tt b h
+
+later-sound : (kind : Kind) (b : ℕ) → b < 256 → octetFault (Writing kind) b ≡ 0 → Sound b
+later-sound kind b h e = record { small = h; test = truly _ (implied _ _ (later-test kind b h) (eq-eqb _ _ e)) }
+
+-- nothing is refused where neither of two is
+pub before-none : (f g : ℕ) (t : Bool) → eqb f 0 ≡ t → choose t g f ≡ 0 → (f ≡ 0) × (g ≡ 0)
+unfolding choose
+before-none f g true e z = (eqb-true f 0 e, z)
+before-none f g false e z = let w : _≡_ {A = Bool} true false = cc (eq-eqb f 0 z) in (z, cc)
+
+every-small : (b : ℕ) (bs : List ℕ) → octetsAll (b ∷ bs) ≡ true → (b < 256) × (octetsAll bs ≡ true)
+unfolding every
+every-small b bs e = let parts = both-true _ _ e in (ltb-true b 256 (parts .0), parts .1)
+
+laters-sound : (kind : Kind) (bs : List ℕ) → octetsAll bs ≡ true → firstFault (Writing kind) bs ≡ 0 → Each Sound bs
+unfolding firstFault
+laters-sound kind [] small e = none
+laters-sound kind (b ∷ bs) small e =
+    let parts = every-small b bs small in
+    let fine = before-none (octetFault (Writing kind) b) (firstFault (Writing kind) bs) (eqb (octetFault (Writing kind) b) 0) refl e in
+    more (later-sound kind b (parts .0) (fine .0)) (laters-sound kind bs (parts .1) (fine .1))
+
+by-tests : (p : Purpose) (bs : List ℕ) (long opened : Bool) → opens bs ≡ opened → choose long 4 (choose opened (firstFault p (drop 1 bs)) 5) ≡ 0 → (opens bs ≡ true) × (firstFault p (drop 1 bs) ≡ 0)
+unfolding choose
+by-tests p bs true opened o e = absurd (omega (arith, e))
+by-tests p bs false true o e = (o, e)
+by-tests p bs false false o e = absurd (omega (arith, e))
+
+pub accepted-sound : (kind : Kind) (octets : List ℕ) → Accepted kind octets → Each Sound octets
+accepted-sound kind [] a = none
+accepted-sound kind (b ∷ bs) a =
+    let parts = every-small b bs (a .octet) in
+    let fine = by-tests (Writing kind) (b ∷ bs) (ltb 64 (length (b ∷ bs))) (opens (b ∷ bs)) refl (a .taken) in
+    more (first-sound b (parts .0) (fine .0)) (laters-sound kind bs (parts .1) (fine .1))
+
+pub accepted-length : (kind : Kind) (octets : List ℕ) → Accepted kind octets → length octets ≤ 64
+accepted-length kind octets a = accepted-short (Writing kind) octets (a .taken)
