@@ -18,9 +18,17 @@ between low high n = both (leb low n) (leb n high)
 abbrev pub isItem : ℕ → Bool
 isItem value = between 1 12 value
 
--- "none, an item, or PCM options": 0, the item, or 16 and the options, which are 1 to 7
+-- "PCM options not 1 to 7" are refused: a choice holds them above 16, since no item is as high
+abbrev pub isPcm : ℕ → Bool
+isPcm value = between 17 23 value
+
+-- what a session can go on with
+abbrev pub isMode : ℕ → Bool
+isMode value = either (isItem value) (isPcm value)
+
+-- "none, an item, or PCM options"; 0 is none
 abbrev pub isChoice : ℕ → Bool
-isChoice value = either (eqb value 0) (either (isItem value) (between 17 23 value))
+isChoice value = either (eqb value 0) (isMode value)
 
 -- "Te is 500 to 5,000"
 abbrev pub isTe : ℕ → Bool
