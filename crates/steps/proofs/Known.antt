@@ -6,7 +6,7 @@ use mathlib.Core.Path.{_≡_, refl, sym}
 use mathlib.Core.Bool.{Bool, true, false, not}
 use mathlib.Core.Logic.{_⊎_, inl, inr}
 use lib.Dec.{T}
-use Rattle.laws.specs.Choice.{choose, either}
+use Rattle.laws.specs.Choice.{choose, both, either}
 
 pub clash : _≡_ {A = ℕ} 0 1 → ⊥
 clash e = omega (arith, e)
@@ -46,3 +46,8 @@ pub either-right : (a b : Bool) → either a b ≡ true → a ≡ false → b �
 unfolding either
 either-right true b h e = absurd (never (sym e))
 either-right false b h e = h
+
+pub both-with : (a : Bool) → both a true ≡ a
+unfolding both
+both-with true = refl
+both-with false = refl

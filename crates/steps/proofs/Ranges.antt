@@ -11,15 +11,10 @@ use Rattle.laws.specs.Tests.{allBelow, every}
 use Rattle.laws.proofs.Chosen.{chosen, both-true}
 use Rattle.laws.proofs.Computed.{both-left, both-right, below}
 use Rattle.steps.specs.declared.Session.{Session}
-use Rattle.steps.specs.declared.Event.{Event}
-use Rattle.steps.specs.declared.Event.the-variants.{AgreedJm, AgreedCm}
-use Rattle.steps.specs.declared.Next.{Next}
-use Rattle.steps.specs.declared.Next.the-variants.{Enter, End, GoOnOrLeft}
-use Rattle.steps.specs.declared.Ending.the-variants.{Left}
 use Rattle.steps.specs.declared.Row.{Row}
-use Rattle.steps.specs.Table.{stateNo, eventNo, endingNo, over, wentOn, rows}
+use Rattle.steps.specs.Table.{left, goesOn, agreedJm, agreedCm, rows}
 use Rattle.steps.specs.Session.{isChoice, isTe, endFits, stateFits, choiceFits, endedFits, inRange, caller, answerer, callerFrom, answererFrom}
-use Rattle.steps.specs.Stepping.{Outcome, goOn, owns, refusedWith11, chosenAfter, renewed, inState, ends, taken, refuses, stepped}
+use Rattle.steps.specs.Stepping.{Outcome, owns, refusedWith11, chosenAfter, renewed, taken, refuses, stepped}
 use Rattle.steps.proofs.Known.{is-so, taken-if}
 use Rattle.steps.proofs.Rows.{Taken, step-case}
 
@@ -44,30 +39,9 @@ pub fits-range : (s : Session) → Fits s → inRange s ≡ true
 unfolding inRange both
 fits-range s f = simp (f .end, f .state, f .choice, f .chosen, f .ended)
 
--- the state and the ending that a row leads to
-abbrev pub nextState : Next → ℕ
-nextState (Enter state) = stateNo state
-nextState (End ending) = over
-nextState GoOnOrLeft = over
-
-abbrev nextEnded : Next → Bool → ℕ
-nextEnded (Enter state) none = 0
-nextEnded (End ending) none = endingNo ending
-nextEnded GoOnOrLeft none = choose none (endingNo Left) wentOn
-
-gone-on : (t : Bool) (s : Session) → choose t (ends s Left) (record { answer = goOn (s .chosen); session = inState s over wentOn }) .session ≡ inState s over (choose t (endingNo Left) wentOn)
-unfolding choose
-gone-on true s = refl
-gone-on false s = refl
-
-pub taken-is : (s : Session) (next : Next) → taken s next .session ≡ inState s (nextState next) (nextEnded next (eqb (s .chosen) 0))
-taken-is s (Enter state) = refl
-taken-is s (End ending) = refl
-taken-is s GoOnOrLeft = gone-on (eqb (s .chosen) 0) s
-
 -- whether nothing is chosen once a row is taken, where an agreed menu may bring a choice
 abbrev noneAfter : ℕ → Bool → Bool → Bool
-noneAfter event brings none = choose (eqb event (eventNo AgreedJm)) brings (choose (eqb event (eventNo AgreedCm)) brings none)
+noneAfter event brings none = choose (eqb event agreedJm) brings (choose (eqb event agreedCm) brings none)
 
 brought : (a b : Bool) (x y z : ℕ) → choose a (choose a (eqb x 0) (eqb y 0)) (choose b (choose a (eqb x 0) (eqb y 0)) (eqb z 0)) ≡ eqb (choose a x (choose b y z)) 0
 unfolding choose
@@ -77,13 +51,13 @@ brought false false x y z = refl
 
 -- a row, held against an end's numbers: those before it in range, and those that it leaves
 abbrev before : Row → ℕ → Bool → Bool
-before r end none = both (stateFits end (stateNo (r .0))) (both (owns end (eventNo (r .1))) (choiceFits (stateNo (r .0)) none))
+before r end none = both (stateFits end (r .0)) (both (owns end (r .1)) (choiceFits (r .0) none))
 
 abbrev after : Row → ℕ → Bool → Bool
-after r end none = both (stateFits end (nextState (r .3))) (both (choiceFits (nextState (r .3)) none) (endedFits (nextState (r .3)) none (nextEnded (r .3) none)))
+after r end none = both (stateFits end (r .4)) (both (choiceFits (r .4) none) (endedFits (r .4) none (choose (eqb (r .5) goesOn) (choose none left goesOn) (r .5))))
 
 abbrev keeps : Row → ℕ → Bool → Bool → Bool
-keeps r end none brings = choose (before r end none) (after r end (noneAfter (eventNo (r .1)) brings none)) true
+keeps r end none brings = choose (before r end none) (after r end (noneAfter (r .1) brings none)) true
 
 abbrev bothWays : (Bool → Bool) → Bool
 bothWays f = both (f true) (f false)
@@ -100,9 +74,9 @@ either-way : (f : Bool → Bool) → T (bothWays f) → (b : Bool) → T (f b)
 either-way f t true = both-left (f true) (f false) t
 either-way f t false = both-right (f true) (f false) t
 
-all-kept : (r : Row) → T (rowKeeps r) → (end : ℕ) → end < 3 → (none brings : Bool) → before r end none ≡ true → after r end (noneAfter (eventNo (r .1)) brings none) ≡ true
+all-kept : (r : Row) → T (rowKeeps r) → (end : ℕ) → end < 3 → (none brings : Bool) → before r end none ≡ true → after r end (noneAfter (r .1) brings none) ≡ true
 all-kept r t end h none brings b =
-    is-so _ (taken-if (before r end none) (after r end (noneAfter (eventNo (r .1)) brings none)) true
+    is-so _ (taken-if (before r end none) (after r end (noneAfter (r .1) brings none)) true
     (either-way (keeps r end none) (either-way (λ n. bothWays (keeps r end n)) (below (λ e. bothWays (λ n. bothWays (keeps r e n))) 3 t end h) none) brings)
     b)
 
@@ -121,28 +95,26 @@ choice-kept false true w x value was h k = h
 choice-kept false false w x value was h k = k
 
 -- a row that is taken leaves the session in range
-row-fits : (s : Session) (event : Event) (value now : ℕ) (r : Row) → Taken s event value now r → T (rowKeeps r) → inRange (taken (renewed s (eventNo event) value now) (r .3) .session) ≡ true
+row-fits : (s : Session) (event value now : ℕ) (r : Row) → Taken s event value now r → T (rowKeeps r) → inRange (taken (renewed s event value now) (r .4) (r .5) .session) ≡ true
 unfolding both
 row-fits s event value now r k t =
-    let on = eventNo event in
     let f = range-fits s (k .inside) in
     let none = eqb (s .chosen) 0 in
-    let brings = choose (eqb on (eventNo AgreedJm)) (eqb (choose (eqb value refusedWith11) 0 value) 0) (eqb value 0) in
+    let brings = choose (eqb event agreedJm) (eqb (choose (eqb value refusedWith11) 0 value) 0) (eqb value 0) in
     let from : before r (s .end) none ≡ true = rw (k .row .state, k .row .on) (simp (f .state, k .own, f .chosen)) in
-    let left : noneAfter (eventNo (r .1)) brings none ≡ eqb (chosenAfter on value (s .chosen)) 0 = rw (k .row .on) (brought (eqb on (eventNo AgreedJm)) (eqb on (eventNo AgreedCm)) _ _ _) in
-    let kept = sym (ap (after r (s .end)) left) ∙ all-kept r t (s .end) (end-small (s .end) (s .te) (f .end)) none brings from in
+    let same : noneAfter (r .1) brings none ≡ eqb (chosenAfter event value (s .chosen)) 0 = rw (k .row .on) (brought (eqb event agreedJm) (eqb event agreedCm) _ _ _) in
+    let kept = sym (ap (after r (s .end)) same) ∙ all-kept r t (s .end) (end-small (s .end) (s .te) (f .end)) none brings from in
     let parts = both-true _ _ kept in
     let rest = both-true _ _ (parts .1) in
-    ap inRange (taken-is (renewed s on value now) (r .3))
-    ∙ fits-range _ (record { end = f .end; state = parts .0; choice = choice-kept (eqb on (eventNo AgreedJm)) (eqb on (eventNo AgreedCm)) (eqb value refusedWith11) _ value (s .chosen) (k .fit) (f .choice); chosen = rest .0; ended = rest .1 })
+    fits-range _ (record { end = f .end; state = parts .0; choice = choice-kept (eqb event agreedJm) (eqb event agreedCm) (eqb value refusedWith11) _ value (s .chosen) (k .fit) (f .choice); chosen = rest .0; ended = rest .1 })
 
 -- every step keeps a session in range
-pub stepped-range : (s : Session) (event : Event) (value now : ℕ) → inRange s ≡ true → inRange (stepped s event value now .session) ≡ true
+pub stepped-range : (s : Session) (event value now : ℕ) → inRange s ≡ true → inRange (stepped s event value now .session) ≡ true
 stepped-range s event value now h =
     step-case s event value now (λ (o : Outcome). inRange (o .session) ≡ true) rowKeeps rows-keep (λ _. h) h (row-fits s event value now)
 
 -- one that is outside is refused with 10, before all else, and keeps its value
-pub stepped-outside : (s : Session) (event : Event) (value now : ℕ) → inRange s ≡ false → stepped s event value now ≡ refuses 10 s
+pub stepped-outside : (s : Session) (event value now : ℕ) → inRange s ≡ false → stepped s event value now ≡ refuses 10 s
 unfolding choose
 stepped-outside s event value now h = simp h
 

@@ -7,7 +7,6 @@ use mathlib.Core.List.{List, [], _∷_}
 use borrow.Author.Tests.{eq-eqb}
 use Rattle.laws.specs.Choice.{choose}
 use Rattle.steps.specs.declared.Session.{Session}
-use Rattle.steps.specs.declared.Event.{Event}
 use Rattle.steps.specs.Table.{over}
 use Rattle.steps.specs.Session.{inRange}
 use Rattle.steps.specs.Stepping.{Outcome, refuses, steppedIn, stepped}
@@ -15,7 +14,7 @@ use Rattle.steps.specs.Runs.{Timed, next, run}
 use Rattle.steps.proofs.Ranges.{stepped-range}
 
 -- after over every event is refused with 7
-pub after-over : (s : Session) (event : Event) (value now : ℕ) → inRange s ≡ true → s .state ≡ over → stepped s event value now ≡ refuses 7 s
+pub after-over : (s : Session) (event value now : ℕ) → inRange s ≡ true → s .state ≡ over → stepped s event value now ≡ refuses 7 s
 unfolding steppedIn choose
 after-over s event value now h o = simp (h, eq-eqb _ _ o)
 

@@ -14,53 +14,29 @@ use Rattle.laws.specs.Tests.{allBelow, every}
 use Rattle.laws.proofs.Chosen.{chosen, both-true}
 use Rattle.laws.proofs.Computed.{both-left, both-right, below}
 use Rattle.steps.specs.declared.Session.{Session}
-use Rattle.steps.specs.declared.State.the-variants.{Quiet}
-use Rattle.steps.specs.declared.Event.{Event}
-use Rattle.steps.specs.declared.Event.the-variants.{Tick}
-use Rattle.steps.specs.declared.When.{When}
-use Rattle.steps.specs.declared.When.the-variants.{Always, Elapsed, ElapsedTe, NoneChosen, RefusedWith11, ChosenItem}
 use Rattle.steps.specs.declared.Row.{Row}
 use Rattle.steps.specs.declared.Found.{Found}
 use Rattle.steps.specs.declared.Found.the-variants.{At}
-use Rattle.steps.specs.Table.{stateNo, eventNo, over, rows}
+use Rattle.steps.specs.Table.{quiet, over, tick, always, teElapsed, rows}
 use Rattle.steps.specs.Session.{between, isTe, stateFits, endFits, inRange, caller}
-use Rattle.steps.specs.Stepping.{Outcome, elapsed, holds, applies, findRow, renewed, moved, timed, steppedIn, stepped}
+use Rattle.steps.specs.Stepping.{Outcome, elapsed, holds, applies, findRow, moved, timed, steppedIn, stepped}
 use Rattle.steps.specs.Runs.{least, ticks, limitIn, limit, passes}
-use Rattle.steps.proofs.Known.{never, is-not, taken-if, either-true}
+use Rattle.steps.proofs.Known.{never, is-so, is-not, taken-if, either-true, both-with}
 use Rattle.steps.proofs.Rows.{Applies, step-case}
-use Rattle.steps.proofs.Ranges.{range-fits, nextState, taken-is}
+use Rattle.steps.proofs.Ranges.{range-fits}
 
-abbrev tick : ℕ
-tick = eventNo Tick
-
--- a row that asks for elapsed time, and more than none
-abbrev isElapsed : When → Bool
-isElapsed Always = false
-isElapsed (Elapsed n) = ltb 0 n
-isElapsed ElapsedTe = true
-isElapsed NoneChosen = false
-isElapsed RefusedWith11 = false
-isElapsed ChosenItem = false
-
-abbrev isTeElapsed : When → Bool
-isTeElapsed Always = false
-isTeElapsed (Elapsed n) = false
-isTeElapsed ElapsedTe = true
-isTeElapsed NoneChosen = false
-isTeElapsed RefusedWith11 = false
-isTeElapsed ChosenItem = false
-
--- "'Elapsed' is tested on a tick only"
+-- "'Elapsed' is tested on a tick only": a row for a tick asks for elapsed time, Te or more than none, and for nothing else; and
+-- a row for another event asks for none
 abbrev timely : Row → Bool
-timely r = choose (eqb (eventNo (r .1)) tick) (isElapsed (r .2)) (not (isElapsed (r .2)))
+timely r = choose (eqb (r .1) tick) (choose (eqb (r .3) teElapsed) (eqb (r .2) 0) (both (eqb (r .3) always) (ltb 0 (r .2)))) (both (eqb (r .2) 0) (not (eqb (r .3) teElapsed)))
 
 -- Te is asked for in quiet alone
 abbrev teInQuiet : Row → Bool
-teInQuiet r = choose (isTeElapsed (r .2)) (eqb (stateNo (r .0)) (stateNo Quiet)) true
+teInQuiet r = choose (eqb (r .3) teElapsed) (eqb (r .0) quiet) true
 
 -- a row leaves its state
 abbrev leaves : Row → Bool
-leaves r = not (eqb (nextState (r .3)) (stateNo (r .0)))
+leaves r = not (eqb (r .4) (r .0))
 
 abbrev rowTicks : Row → Bool
 rowTicks r = both (timely r) (both (teInQuiet r) (leaves r))
@@ -81,13 +57,15 @@ states-tick : T (allBelow passing 11)
 unfolding choose both either allBelow rows hasTick
 states-tick = tt
 
-holds-least : (w : When) (s : Session) (value passed : ℕ) → T (isElapsed w) → holds w s value passed ≡ leb (least w s) passed
-holds-least Always s value passed h = absurd h
-holds-least (Elapsed n) s value passed h = refl
-holds-least ElapsedTe s value passed h = refl
-holds-least NoneChosen s value passed h = absurd h
-holds-least RefusedWith11 s value passed h = absurd h
-holds-least ChosenItem s value passed h = absurd h
+-- what a row for a tick asks for comes to its time
+least-by : (te : Bool) (when n wait passed : ℕ) (rest : Bool) → T (choose te (eqb n 0) (both (eqb when always) (ltb 0 n))) → (eqb when always ≡ true → rest ≡ true) → both (leb n passed) (choose te (leb wait passed) rest) ≡ leb (choose te wait n) passed
+unfolding choose both
+least-by true when n wait passed rest t e = rw (le-leb n passed (omega (arith, eqb→eq n 0 t)))
+least-by false when n wait passed rest t e = rw (e (is-so _ (both-left (eqb when always) (ltb 0 n) t))) (both-with (leb n passed))
+
+holds-least : (r : Row) (s : Session) (value passed : ℕ) → T (choose (eqb (r .3) teElapsed) (eqb (r .2) 0) (both (eqb (r .3) always) (ltb 0 (r .2)))) → both (leb (r .2) passed) (holds (r .3) s value passed) ≡ leb (least r s) passed
+unfolding choose
+holds-least r s value passed t = least-by (eqb (r .3) teElapsed) (r .3) (r .2) (s .te) passed _ t (λ a. rw (eqb-true (r .3) always a))
 
 -- one row of the search for a tick's row, by its tests: of the state, of the tick, of the time
 tick-by : (a b h k : Bool) (P : Found → Type 0) (x y : Found) (m n passed : ℕ) → (b ≡ true → h ≡ leb m passed) → T (either (both a b) k) → leb (choose (both a b) m n) passed ≡ true → (a ≡ true → b ≡ true → h ≡ true → P x) → (T k → leb n passed ≡ true → P y) → P (choose (both a (both b h)) x y)
@@ -104,9 +82,9 @@ module _ (s : Session) (value passed : ℕ) where
   tick-case P [] t has l at = absurd has
   tick-case P (r ∷ rs) t has l at =
       let row = both-left (rowTicks r) (every rowTicks rs) t in
-      tick-by (eqb (stateNo (r .0)) (s .state)) (eqb (eventNo (r .1)) tick) (holds (r .2) s value passed) (hasTick (s .state) rs) P (At r) (findRow s tick value passed rs) (least (r .2) s) (limitIn rs s) passed
-      (λ b. holds-least (r .2) s value passed (taken-if _ (isElapsed (r .2)) _ (both-left (timely r) _ row) b)) has l
-      (λ a b h. at r (record { state = eqb-true _ _ a; on = eqb-true _ _ b; when = h }) row)
+      tick-by (eqb (r .0) (s .state)) (eqb (r .1) tick) (both (leb (r .2) passed) (holds (r .3) s value passed)) (hasTick (s .state) rs) P (At r) (findRow s tick value passed rs) (least r s) (limitIn rs s) passed
+      (λ b. holds-least r s value passed (taken-if (eqb (r .1) tick) _ _ (both-left (timely r) _ row) b)) has l
+      (λ a b h. let asked = both-true _ _ h in at r (record { state = eqb-true _ _ a; on = eqb-true _ _ b; waited = asked .0; when = asked .1 }) row)
       (λ k n. tick-case P rs (both-right (rowTicks r) (every rowTicks rs) t) k n at)
 
 -- a state that is in range is one of the ten
@@ -121,35 +99,25 @@ state-small end state h =
 
 module _ (s : Session) (value now : ℕ) (h : inRange s ≡ true) where
   -- a tick on the clock's good side looks up the table
-  ticked : (s .state ≡ over → ⊥) → elapsed now (s .entry) < 2147483648 → stepped s Tick value now ≡ moved s tick value now (findRow s tick value (elapsed now (s .entry)) rows)
+  ticked : (s .state ≡ over → ⊥) → elapsed now (s .entry) < 2147483648 → stepped s tick value now ≡ moved s tick value now (findRow s tick value (elapsed now (s .entry)) rows)
   unfolding steppedIn timed choose both either
   ticked o e = simp (h, ne-eqb _ _ o, lt-ltb _ _ e)
 
   -- the first tick at or past the limit leaves the state: none of these states can last
-  pub leaves-in-time : passes (s .state) ≡ true → limit s ≤ elapsed now (s .entry) → elapsed now (s .entry) < 2147483648 → stepped s Tick value now .session .state ≡ s .state → ⊥
+  pub leaves-in-time : passes (s .state) ≡ true → limit s ≤ elapsed now (s .entry) → elapsed now (s .entry) < 2147483648 → stepped s tick value now .session .state ≡ s .state → ⊥
   unfolding both either
   leaves-in-time p l e stays =
       let small = state-small (s .end) (s .state) (range-fits s h .state) in
       let going : s .state ≡ over → ⊥ = λ o. never (sym (ap passes o) ∙ p) in
       let has = taken-if (both (ltb 0 (s .state)) (passes (s .state))) (hasTick (s .state) rows) true (below passing 11 states-tick (s .state) (small .1)) (simp (lt-ltb _ _ (small .0), p)) in
       tick-case s value (elapsed now (s .entry)) (λ (found : Found). moved s tick value now found .session .state ≡ s .state → ⊥) rows rows-tick has (le-leb _ _ l)
-      (λ r a t m. never (sym (is-not (eqb (nextState (r .3)) (stateNo (r .0))) (both-right (teInQuiet r) (leaves r) (both-right (timely r) _ t))) ∙ eq-eqb _ _ (sym (ap (λ (x : Session). x .state) (taken-is (renewed s tick value now) (r .3))) ∙ m ∙ sym (a .state))))
+      (λ r a t m. never (sym (is-not (eqb (r .4) (r .0)) (both-right (teInQuiet r) (leaves r) (both-right (timely r) _ t))) ∙ eq-eqb _ _ (m ∙ sym (a .state))))
       (sym (ap (λ (o : Outcome). o .session .state) (ticked going e)) ∙ stays)
 
 -- an event leaves the session as it was, or its time is the entry time
-pub settles : (s : Session) (event : Event) (value now : ℕ) → (stepped s event value now .session ≡ s) ⊎ (stepped s event value now .session .entry ≡ now)
+pub settles : (s : Session) (event value now : ℕ) → (stepped s event value now .session ≡ s) ⊎ (stepped s event value now .session .entry ≡ now)
 settles s event value now =
-    step-case s event value now (λ (o : Outcome). (o .session ≡ s) ⊎ (o .session .entry ≡ now)) rowTicks rows-tick (λ _. inl refl) (inl refl)
-    (λ r _ _. inr (ap (λ (x : Session). x .entry) (taken-is (renewed s (eventNo event) value now) (r .3))))
-
--- at the entry time no row for a tick applies
-at-once : (w : When) (s : Session) (value : ℕ) → T (isElapsed w) → (isTeElapsed w ≡ true → 0 < s .te) → holds w s value 0 ≡ true → ⊥
-at-once Always s value t q h = t
-at-once (Elapsed n) s value t q h = omega (arith, ltb→lt 0 n t, leb-true n 0 h)
-at-once ElapsedTe s value t q h = omega (arith, q refl, leb-true (s .te) 0 h)
-at-once NoneChosen s value t q h = t
-at-once RefusedWith11 s value t q h = t
-at-once ChosenItem s value t q h = t
+    step-case s event value now (λ (o : Outcome). (o .session ≡ s) ⊎ (o .session .entry ≡ now)) rowTicks rows-tick (λ _. inl refl) (inl refl) (λ r _ _. inr refl)
 
 -- quiet is the caller's, whose Te is more than none
 te-by : (t : Bool) (te : ℕ) (x : Bool) → choose t true false ≡ true → choose t (isTe te) x ≡ true → isTe te ≡ true
@@ -157,28 +125,34 @@ unfolding choose
 te-by true te x c e = e
 te-by false te x c e = absurd (never c)
 
-quiet-te : (end te state : ℕ) → stateFits end state ≡ true → endFits end te ≡ true → state ≡ stateNo Quiet → 0 < te
+quiet-te : (end te state : ℕ) → stateFits end state ≡ true → endFits end te ≡ true → state ≡ quiet → 0 < te
 unfolding both either
 quiet-te end te state f e q =
     let own : choose (eqb end caller) true false ≡ true = sym (ap (stateFits end) q) ∙ f in
     omega (arith, between-true 500 5000 te (te-by (eqb end caller) te _ own e) .0)
 
-tick-at-entry : (s : Session) (value now : ℕ) → s .entry ≡ now → stepped s Tick value now .session ≡ s
-unfolding elapsed
+-- at the entry time no row for a tick applies
+least-some : (te : Bool) (when n wait : ℕ) → T (choose te (eqb n 0) (both (eqb when always) (ltb 0 n))) → (te ≡ true → 0 < wait) → 0 < choose te wait n
+unfolding choose
+least-some true when n wait t q = q refl
+least-some false when n wait t q = ltb→lt 0 n (both-right (eqb when always) (ltb 0 n) t)
+
+tick-at-entry : (s : Session) (value now : ℕ) → s .entry ≡ now → stepped s tick value now .session ≡ s
+unfolding elapsed both
 tick-at-entry s value now e =
     let none : elapsed now (s .entry) ≡ 0 = simp e (omega arith) in
-    step-case s Tick value now (λ (o : Outcome). o .session ≡ s) rowTicks rows-tick (λ _. refl) refl
+    step-case s tick value now (λ (o : Outcome). o .session ≡ s) rowTicks rows-tick (λ _. refl) refl
     (λ r k t.
     let f = range-fits s (k .inside) in
-    let asked = taken-if _ (isElapsed (r .2)) _ (both-left (timely r) _ t) (eq-eqb _ _ (k .row .on)) in
-    let quiet = both-left (teInQuiet r) (leaves r) (both-right (timely r) _ t) in
-    absurd (at-once (r .2) s value asked
-    (λ q. quiet-te (s .end) (s .te) (s .state) (f .state) (f .end) (sym (k .row .state) ∙ eqb→eq _ _ (taken-if (isTeElapsed (r .2)) (eqb (stateNo (r .0)) (stateNo Quiet)) true quiet q)))
-    (ap (holds (r .2) s value) (sym none) ∙ k .row .when)))
+    let asked = taken-if (eqb (r .1) tick) _ _ (both-left (timely r) _ t) (eq-eqb _ _ (k .row .on)) in
+    let te = both-left (teInQuiet r) (leaves r) (both-right (timely r) _ t) in
+    let some = least-some (eqb (r .3) teElapsed) (r .3) (r .2) (s .te) asked (λ q. quiet-te (s .end) (s .te) (s .state) (f .state) (f .end) (sym (k .row .state) ∙ eqb→eq _ _ (taken-if (eqb (r .3) teElapsed) (eqb (r .0) quiet) true te q))) in
+    let passed : leb (least r s) (elapsed now (s .entry)) ≡ true = sym (holds-least r s value (elapsed now (s .entry)) asked) ∙ simp (k .row .waited, k .row .when) in
+    absurd (let z : ⊥ = omega (arith, some, none, leb-true (least r s) (elapsed now (s .entry)) passed) in z))
 
 -- "one tick makes one change at most": the same tick again changes nothing
-pub tick-once : (s : Session) (value now : ℕ) → stepped (stepped s Tick value now .session) Tick value now .session ≡ stepped s Tick value now .session
+pub tick-once : (s : Session) (value now : ℕ) → stepped (stepped s tick value now .session) tick value now .session ≡ stepped s tick value now .session
 tick-once s value now =
-    ⊎-elim (λ e. ap (λ (x : Session). stepped x Tick value now .session) e)
-    (λ e. tick-at-entry (stepped s Tick value now .session) value now e)
-    (settles s Tick value now)
+    ⊎-elim (λ e. ap (λ (x : Session). stepped x tick value now .session) e)
+    (λ e. tick-at-entry (stepped s tick value now .session) value now e)
+    (settles s tick value now)

@@ -1,57 +1,29 @@
 -- No two answers say the same, and two results that meet what is laid down are equal.
 -- Assumes nothing.
-use Prim.Native.Nat.{ℕ, _-_}
 use mathlib.Core.Path.{_≡_, refl, sym, ap, _∙_}
-use mathlib.Core.List.{[], _∷_}
-use lib.ListN.{getD}
 use Rattle.octets.proofs.Numbers.{named, named-number}
 use Rattle.steps.specs.declared.Session.{Session}
-use Rattle.steps.specs.declared.State.{State}
-use Rattle.steps.specs.declared.State.the-variants.{CallerStill, Calling, Quiet, Menu, Closing, Pause, AnswererStill, Answering, Joint}
-use Rattle.steps.specs.declared.Ending.the-variants.{Left, Late, Cleared, NotOffered}
 use Rattle.steps.specs.declared.Answer.{Answer}
-use Rattle.steps.specs.declared.Answer.the-variants.{Same, Entered, Over, GoOn, Refused}
+use Rattle.steps.specs.declared.Answer.the-variants.{Same, Entered, Ended, GoOn, Refused}
 use Rattle.steps.specs.declared.Stepped.{Stepped}
 use Rattle.steps.specs.declared.Started.{Started}
 use Rattle.steps.specs.declared.Started.the-variants as starts
-use Rattle.steps.specs.Table.{stateNo}
 use Rattle.steps.specs.Session.{Start, ready, saysStarted}
 use Rattle.steps.specs.Session as session
-use Rattle.steps.specs.Stepping.{Answered, same, entered, left, late, cleared, notOffered, goOn, refusal, says, Outcome, Steps}
-
--- the state of a number
-abbrev stateNamed : ℕ → State
-stateNamed n = getD (CallerStill ∷ Calling ∷ Quiet ∷ Menu ∷ Closing ∷ Pause ∷ AnswererStill ∷ Answering ∷ Joint ∷ []) (n - 1) CallerStill
-
-state-named : (s : State) → stateNamed (stateNo s) ≡ s
-state-named CallerStill = refl
-state-named Calling = refl
-state-named Quiet = refl
-state-named Menu = refl
-state-named Closing = refl
-state-named Pause = refl
-state-named AnswererStill = refl
-state-named Answering = refl
-state-named Joint = refl
+use Rattle.steps.specs.Stepping.{Answered, same, entered, ended, goOn, refusal, says, Outcome, Steps}
 
 -- the answer that says this
 abbrev saying : Answered → Answer
 saying same = Same
-saying (entered n) = Entered (stateNamed n)
-saying left = Over Left
-saying late = Over Late
-saying cleared = Over Cleared
-saying notOffered = Over NotOffered
+saying (entered state) = Entered state
+saying (ended how) = Ended how
 saying (goOn choice) = GoOn choice
 saying (refusal n) = Refused (named n)
 
 said : (a : Answer) → saying (says a) ≡ a
 said Same = refl
-said (Entered state) = ap Entered (state-named state)
-said (Over Left) = refl
-said (Over Late) = refl
-said (Over Cleared) = refl
-said (Over NotOffered) = refl
+said (Entered state) = refl
+said (Ended how) = refl
 said (GoOn choice) = refl
 said (Refused r) = ap Refused (named-number r)
 

@@ -3,21 +3,16 @@ use Prim.Native.Nat.{ℕ}
 use mathlib.Core.Path.{_≡_}
 use mathlib.Core.Bool.{Bool, true, false, not}
 use mathlib.Core.List.{List, [], _∷_}
-use lib.Dec.{ltb, eqb}
+use lib.Dec.{eqb}
 use Rattle.laws.specs.Choice.{choose, both, either}
 use Rattle.steps.specs.declared.Session.{Session}
-use Rattle.steps.specs.declared.State.the-variants.{Calling, Closing, Joint}
-use Rattle.steps.specs.declared.Event.{Event}
-use Rattle.steps.specs.declared.Event.the-variants.{Tick}
-use Rattle.steps.specs.declared.When.{When}
-use Rattle.steps.specs.declared.When.the-variants.{Always, Elapsed, ElapsedTe, NoneChosen, RefusedWith11, ChosenItem}
 use Rattle.steps.specs.declared.Row.{Row}
-use Rattle.steps.specs.Table.{stateNo, eventNo, over, rows}
-use Rattle.steps.specs.Stepping.{Answered, same, entered, left, late, cleared, notOffered, goOn, refusal, Outcome, stepped}
+use Rattle.steps.specs.Table.{calling, closing, joint, over, tick, teElapsed, rows}
+use Rattle.steps.specs.Stepping.{Answered, same, entered, ended, goOn, refusal, Outcome, stepped}
 
 -- an event with what it carries; "Every event carries the time"
 pub record Timed : Type 0 where
-  pub event : Event
+  pub event : ℕ
   pub value : ℕ
   pub now : ℕ
 
@@ -32,11 +27,8 @@ run s (t ∷ ts) = run (next s t .session) ts
 -- closing or joint was entered: the states that an agreed menu leads to
 abbrev pub agreed : Answered → Bool
 agreed same = false
-agreed (entered state) = either (eqb state (stateNo Closing)) (eqb state (stateNo Joint))
-agreed left = false
-agreed late = false
-agreed cleared = false
-agreed notOffered = false
+agreed (entered state) = either (eqb state closing) (eqb state joint)
+agreed (ended how) = false
 agreed (goOn choice) = false
 agreed (refusal n) = false
 
@@ -50,27 +42,22 @@ pub data Brought : Session → List Timed → ℕ → Type 0 where
   here : {s : Session} {t : Timed} {ts : List Timed} → agreed (next s t .answer) ≡ true → noneAgreed (next s t .session) ts ≡ true → Brought s (t ∷ ts) (t .value)
   later : {s : Session} {t : Timed} {ts : List Timed} {choice : ℕ} → agreed (next s t .answer) ≡ false → Brought (next s t .session) ts choice → Brought s (t ∷ ts) choice
 
--- what a row's "elapsed" asks for
-abbrev pub least : When → Session → ℕ
-least Always s = 0
-least (Elapsed n) s = n
-least ElapsedTe s = s .te
-least NoneChosen s = 0
-least RefusedWith11 s = 0
-least ChosenItem s = 0
+-- the time that a row asks for
+abbrev pub least : Row → Session → ℕ
+least r s = choose (eqb (r .3) teElapsed) (s .te) (r .2)
 
 -- a row of this state for a tick
 abbrev pub ticks : ℕ → Row → Bool
-ticks state r = both (eqb (stateNo (r .0)) state) (eqb (eventNo (r .1)) (eventNo Tick))
+ticks state r = both (eqb (r .0) state) (eqb (r .1) tick)
 
 -- how long a state lasts: what its row for a tick asks for
 unfoldable pub limitIn : List Row → Session → ℕ
 limitIn [] s = 0
-limitIn (r ∷ rs) s = choose (ticks (s .state) r) (least (r .2) s) (limitIn rs s)
+limitIn (r ∷ rs) s = choose (ticks (s .state) r) (least r s) (limitIn rs s)
 
 abbrev pub limit : Session → ℕ
 limit s = limitIn rows s
 
 -- every state but calling, closing and over
 abbrev pub passes : ℕ → Bool
-passes state = not (either (eqb state (stateNo Calling)) (either (eqb state (stateNo Closing)) (eqb state over)))
+passes state = not (either (eqb state calling) (either (eqb state closing) (eqb state over)))

@@ -1,15 +1,13 @@
 -- docs/RANGES.md: what a session may hold; and how it starts.
 use Prim.Native.Nat.{ℕ}
-use mathlib.Core.Bool.{Bool, true, false, not}
+use mathlib.Core.Bool.{Bool, true, not}
 use lib.Dec.{ltb, leb, eqb}
 use Rattle.laws.specs.Choice.{choose, both, either}
 use Rattle.octets.specs.Refusals.{number}
 use Rattle.steps.specs.declared.Session.{Session}
-use Rattle.steps.specs.declared.State.the-variants.{CallerStill, Closing, Pause, AnswererStill, Answering, Joint}
-use Rattle.steps.specs.declared.Ending.the-variants.{Left, NotOffered}
 use Rattle.steps.specs.declared.Started.{Started}
 use Rattle.steps.specs.declared.Started.the-variants.{Ready, Refused}
-use Rattle.steps.specs.Table.{stateNo, endingNo, over, wentOn}
+use Rattle.steps.specs.Table.{callerStill, closing, pause, answererStill, answering, joint, over, going, left, notOffered, goesOn}
 
 abbrev pub between : ℕ → ℕ → ℕ → Bool
 between low high n = both (leb low n) (leb n high)
@@ -51,19 +49,19 @@ endFits end te = choose (eqb end caller) (isTe te) (both (eqb end answerer) (eqb
 
 -- a state of this end; pause and over are both ends'
 abbrev pub stateFits : ℕ → ℕ → Bool
-stateFits end state = either (eqb state over) (choose (eqb end caller) (between (stateNo CallerStill) (stateNo Pause) state) (between (stateNo Pause) (stateNo Joint) state))
+stateFits end state = either (eqb state over) (choose (eqb end caller) (between callerStill pause state) (between pause joint state))
 
 -- the states before a menu is agreed: caller still to menu, answerer still and answering
 abbrev pub early : ℕ → Bool
-early state = either (ltb state (stateNo Closing)) (between (stateNo AnswererStill) (stateNo Answering) state)
+early state = either (ltb state closing) (between answererStill answering state)
 
 -- nothing is chosen before a menu is agreed
 abbrev pub choiceFits : ℕ → Bool → Bool
 choiceFits state none = choose (early state) none true
 
--- how it ended, once it is over; it went on with a choice only
+-- how it ended, once it is over; it goes on with a choice only
 abbrev pub endedFits : ℕ → Bool → ℕ → Bool
-endedFits state none ended = choose (eqb state over) (choose (eqb ended wentOn) (not none) (between (endingNo Left) (endingNo NotOffered) ended)) (eqb ended 0)
+endedFits state none ended = choose (eqb state over) (choose (eqb ended goesOn) (not none) (between left notOffered ended)) (eqb ended going)
 
 -- "session with a field outside its range" is refused with 10
 unfoldable pub inRange : Session → Bool
@@ -75,10 +73,10 @@ inRange s =
 
 -- "The time of the start .. is the entry time."
 abbrev pub callerFrom : ℕ → ℕ → Session
-callerFrom now te = record { entry = now; te = te; end = caller; state = stateNo CallerStill; chosen = 0; ended = 0 }
+callerFrom now te = record { entry = now; te = te; end = caller; state = callerStill; chosen = 0; ended = going }
 
 abbrev pub answererFrom : ℕ → Session
-answererFrom now = record { entry = now; te = 0; end = answerer; state = stateNo AnswererStill; chosen = 0; ended = 0 }
+answererFrom now = record { entry = now; te = 0; end = answerer; state = answererStill; chosen = 0; ended = going }
 
 -- what a start gives: a session, or a refusal's number
 pub data Start : Type 0 where

@@ -1,52 +1,34 @@
 -- Document 01, 'Steps': what an event changes, and what it is answered.
 use Prim.Native.Nat.{ℕ, _+_, _-_, _%_, _^_}
 use mathlib.Core.Path.{_≡_}
-use mathlib.Core.Bool.{Bool, true, false}
+use mathlib.Core.Bool.{Bool, true}
 use mathlib.Core.List.{List, [], _∷_}
 use lib.Dec.{ltb, leb, eqb}
 use Rattle.laws.specs.Choice.{choose, both, either}
 use Rattle.octets.specs.Refusals.{number}
 use Rattle.steps.specs.declared.Session.{Session}
-use Rattle.steps.specs.declared.Event.{Event}
-use Rattle.steps.specs.declared.Event.the-variants.{AgreedJm, AgreedCm, SigC, Tick}
-use Rattle.steps.specs.declared.When.{When}
-use Rattle.steps.specs.declared.When.the-variants.{Always, Elapsed, ElapsedTe, NoneChosen, RefusedWith11, ChosenItem}
-use Rattle.steps.specs.declared.Ending.{Ending}
-use Rattle.steps.specs.declared.Ending.the-variants.{Left, Late, Cleared, NotOffered}
-use Rattle.steps.specs.declared.Next.{Next}
-use Rattle.steps.specs.declared.Next.the-variants.{Enter, End, GoOnOrLeft}
 use Rattle.steps.specs.declared.Row.{Row}
 use Rattle.steps.specs.declared.Found.{Found}
 use Rattle.steps.specs.declared.Found.the-variants.{At, Nothing}
 use Rattle.steps.specs.declared.Answer.{Answer}
-use Rattle.steps.specs.declared.Answer.the-variants.{Same, Entered, Over, GoOn, Refused}
+use Rattle.steps.specs.declared.Answer.the-variants.{Same, Entered, Ended, GoOn, Refused}
 use Rattle.steps.specs.declared.Stepped.{Stepped}
-use Rattle.steps.specs.Table.{stateNo, eventNo, endingNo, over, wentOn, rows}
-use Rattle.steps.specs.Session.{isItem, isChoice, caller, inRange}
+use Rattle.steps.specs.Table.{over, left, goesOn, ansam, agreedJm, cjSent, agreedCm, sigC, cj, tick, teElapsed, noneChosen, jmRefused, chosenItem, rows}
+use Rattle.steps.specs.Session.{between, isItem, isChoice, caller, inRange}
 
--- what an event is answered: "same", the state entered by its number, how the session ended, the choice to go on with, or a
--- refusal's number
+-- what an event is answered: "same", the state entered, how the session ended, the choice to go on with, or a refusal's number
 pub data Answered : Type 0 where
   same : Answered
   entered : ℕ → Answered
-  left : Answered
-  late : Answered
-  cleared : Answered
-  notOffered : Answered
+  ended : ℕ → Answered
   goOn : ℕ → Answered
   refusal : ℕ → Answered
-
-abbrev pub saysEnding : Ending → Answered
-saysEnding Left = left
-saysEnding Late = late
-saysEnding Cleared = cleared
-saysEnding NotOffered = notOffered
 
 -- what an answer says on paper
 abbrev pub says : Answer → Answered
 says Same = same
-says (Entered state) = entered (stateNo state)
-says (Over ending) = saysEnding ending
+says (Entered state) = entered state
+says (Ended how) = ended how
 says (GoOn choice) = goOn choice
 says (Refused r) = refusal (number r)
 
@@ -66,7 +48,7 @@ elapsed now entry = (now + 2 ^ 32 - entry) % 2 ^ 32
 
 -- "event of the other end" is refused with 9; the tick is for both
 abbrev pub owns : ℕ → ℕ → Bool
-owns end event = either (eqb event (eventNo Tick)) (choose (eqb end caller) (ltb event (eventNo AgreedCm)) (leb (eventNo AgreedCm) event))
+owns end event = either (eqb event tick) (choose (eqb end caller) (between ansam cjSent event) (between agreedCm cj event))
 
 -- "for JM also 'refused with 11'": its own number beside the choices
 abbrev pub refusedWith11 : ℕ
@@ -75,22 +57,23 @@ refusedWith11 = 24
 -- "item not 1 to 12; PCM options not 1 to 7" are refused with 9
 abbrev pub carries : ℕ → ℕ → Bool
 carries event value =
-    choose (eqb event (eventNo AgreedJm)) (either (eqb value refusedWith11) (isChoice value))
-    (choose (eqb event (eventNo AgreedCm)) (isChoice value)
-    (choose (eqb event (eventNo SigC)) (isItem value)
+    choose (eqb event agreedJm) (either (eqb value refusedWith11) (isChoice value))
+    (choose (eqb event agreedCm) (isChoice value)
+    (choose (eqb event sigC) (isItem value)
     true))
 
--- what a row asks for; "'Elapsed' .. means at least"
-abbrev pub holds : When → Session → ℕ → ℕ → Bool
-holds Always s value passed = true
-holds (Elapsed least) s value passed = leb least passed
-holds ElapsedTe s value passed = leb (s .te) passed
-holds NoneChosen s value passed = eqb (s .chosen) 0
-holds RefusedWith11 s value passed = eqb value refusedWith11
-holds ChosenItem s value passed = eqb value (s .chosen)
+-- what else a row asks for: "elapsed Te", "choice none", "refused with 11", "sigC of the chosen item", or nothing
+abbrev pub holds : ℕ → Session → ℕ → ℕ → Bool
+holds when s value passed =
+    choose (eqb when teElapsed) (leb (s .te) passed)
+    (choose (eqb when noneChosen) (eqb (s .chosen) 0)
+    (choose (eqb when jmRefused) (eqb value refusedWith11)
+    (choose (eqb when chosenItem) (eqb value (s .chosen))
+    true)))
 
+-- a row of this state and this event; "'Elapsed' .. means at least"
 unfoldable pub applies : Session → ℕ → ℕ → ℕ → Row → Bool
-applies s event value passed r = both (eqb (stateNo (r .0)) (s .state)) (both (eqb (eventNo (r .1)) event) (holds (r .2) s value passed))
+applies s event value passed r = both (eqb (r .0) (s .state)) (both (eqb (r .1) event) (both (leb (r .2) passed) (holds (r .3) s value passed)))
 
 unfoldable pub findRow : Session → ℕ → ℕ → ℕ → List Row → Found
 findRow s event value passed [] = Nothing
@@ -99,28 +82,34 @@ findRow s event value passed (r ∷ rs) = choose (applies s event value passed r
 -- "Agreed CM and agreed JM carry the choice"; one that is refused with 11 brings none
 abbrev pub chosenAfter : ℕ → ℕ → ℕ → ℕ
 chosenAfter event value chosen =
-    choose (eqb event (eventNo AgreedJm)) (choose (eqb value refusedWith11) 0 value)
-    (choose (eqb event (eventNo AgreedCm)) value chosen)
+    choose (eqb event agreedJm) (choose (eqb value refusedWith11) 0 value)
+    (choose (eqb event agreedCm) value chosen)
 
 -- "The time .. of each change of state, is the entry time."
 abbrev pub renewed : Session → ℕ → ℕ → ℕ → Session
 renewed s event value now = record { entry = now; te = s .te; end = s .end; state = s .state; chosen = chosenAfter event value (s .chosen); ended = s .ended }
 
-abbrev pub inState : Session → ℕ → ℕ → Session
-inState s state ended = record { entry = s .entry; te = s .te; end = s .end; state = state; chosen = s .chosen; ended = ended }
+-- "go on as chosen or left"
+abbrev pub endedAs : ℕ → ℕ → ℕ
+endedAs how chosen = choose (eqb how goesOn) (choose (eqb chosen 0) left goesOn) how
 
-abbrev pub ends : Session → Ending → Outcome
-ends s ending = record { answer = saysEnding ending; session = inState s over (endingNo ending) }
+-- the state entered, or how the session ended
+abbrev pub answerOf : ℕ → ℕ → ℕ → Answered
+answerOf state how chosen = choose (eqb state over) (choose (eqb how goesOn) (goOn chosen) (ended how)) (entered state)
 
--- what a row leads to; "go on as chosen or left"
-abbrev pub taken : Session → Next → Outcome
-taken s (Enter state) = record { answer = entered (stateNo state); session = inState s (stateNo state) 0 }
-taken s (End ending) = ends s ending
-taken s GoOnOrLeft = choose (eqb (s .chosen) 0) (ends s Left) (record { answer = goOn (s .chosen); session = inState s over wentOn })
+abbrev pub entering : Session → ℕ → ℕ → Outcome
+entering s state how = record {
+  answer = answerOf state how (s .chosen);
+  session = record { entry = s .entry; te = s .te; end = s .end; state = state; chosen = s .chosen; ended = how };
+}
+
+-- what a row leads to
+abbrev pub taken : Session → ℕ → ℕ → Outcome
+taken s state how = entering s state (endedAs how (s .chosen))
 
 -- "Any other pair of a state and its own end's event changes nothing and is answered 'same'."
 abbrev pub moved : Session → ℕ → ℕ → ℕ → Found → Outcome
-moved s event value now (At r) = taken (renewed s event value now) (r .3)
+moved s event value now (At r) = taken (renewed s event value now) (r .4) (r .5)
 moved s event value now Nothing = record { answer = same; session = s }
 
 -- "A refusal carries its number alone. .. the session keep[s its] values."
@@ -141,5 +130,5 @@ steppedIn s event value now =
     (choose (both (owns (s .end) event) (carries event value)) (timed s event value now) (refuses 9 s))
 
 -- "10 for a lent .. session comes before all of these"
-abbrev pub stepped : Session → Event → ℕ → ℕ → Outcome
-stepped s event value now = choose (inRange s) (steppedIn s (eventNo event) value now) (refuses 10 s)
+abbrev pub stepped : Session → ℕ → ℕ → ℕ → Outcome
+stepped s event value now = choose (inRange s) (steppedIn s event value now) (refuses 10 s)

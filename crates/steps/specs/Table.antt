@@ -1,89 +1,135 @@
--- Document 01, 'Steps': the table, and the numbers of states, events and endings.
+-- Document 01, 'Steps': the table, and the numbers that stand for states, endings, events and what a row asks for.
 use Prim.Native.Nat.{ℕ}
 use mathlib.Core.List.{List, [], _∷_}
-use Rattle.steps.specs.declared.State.{State}
-use Rattle.steps.specs.declared.State.the-variants.{CallerStill, Calling, Quiet, Menu, Closing, Pause, AnswererStill, Answering, Joint}
-use Rattle.steps.specs.declared.Event.{Event}
-use Rattle.steps.specs.declared.Event.the-variants.{Ansam, Ans, SigA, AgreedJm, CjSent, AgreedCm, SigC, Cj, Tick}
-use Rattle.steps.specs.declared.When.{When}
-use Rattle.steps.specs.declared.When.the-variants.{Always, Elapsed, ElapsedTe, NoneChosen, RefusedWith11, ChosenItem}
-use Rattle.steps.specs.declared.Ending.{Ending}
-use Rattle.steps.specs.declared.Ending.the-variants.{Left, Late, Cleared, NotOffered}
-use Rattle.steps.specs.declared.Next.{Next}
-use Rattle.steps.specs.declared.Next.the-variants.{Enter, End, GoOnOrLeft}
 use Rattle.steps.specs.declared.Row.{Row}
 
--- a state's number is its line in the table
-abbrev pub stateNo : State → ℕ
-stateNo CallerStill = 1
-stateNo Calling = 2
-stateNo Quiet = 3
-stateNo Menu = 4
-stateNo Closing = 5
-stateNo Pause = 6
-stateNo AnswererStill = 7
-stateNo Answering = 8
-stateNo Joint = 9
+-- the states of both ends, by their line in the table; a session that is over stands below them
+abbrev pub callerStill : ℕ
+callerStill = 1
 
--- and a session that is over stands below them all
+abbrev pub calling : ℕ
+calling = 2
+
+abbrev pub quiet : ℕ
+quiet = 3
+
+abbrev pub menu : ℕ
+menu = 4
+
+abbrev pub closing : ℕ
+closing = 5
+
+abbrev pub pause : ℕ
+pause = 6
+
+abbrev pub answererStill : ℕ
+answererStill = 7
+
+abbrev pub answering : ℕ
+answering = 8
+
+abbrev pub joint : ℕ
+joint = 9
+
 abbrev pub over : ℕ
 over = 10
 
+-- how a session ended: not yet, or "left", "late", "cleared", "not offered", "go on"
+abbrev pub going : ℕ
+going = 0
+
+abbrev pub left : ℕ
+left = 1
+
+abbrev pub late : ℕ
+late = 2
+
+abbrev pub cleared : ℕ
+cleared = 3
+
+abbrev pub notOffered : ℕ
+notOffered = 4
+
+abbrev pub goesOn : ℕ
+goesOn = 5
+
 -- "The caller's events are ANSam, ANS, sigA, agreed JM and CJ sent; the answerer's are agreed CM, sigC and CJ; the tick is for both."
-abbrev pub eventNo : Event → ℕ
-eventNo Ansam = 1
-eventNo Ans = 2
-eventNo SigA = 3
-eventNo AgreedJm = 4
-eventNo CjSent = 5
-eventNo AgreedCm = 6
-eventNo SigC = 7
-eventNo Cj = 8
-eventNo Tick = 9
+abbrev pub ansam : ℕ
+ansam = 1
 
--- how a session ended: left, late, cleared, not offered; 5 where it went on, 0 where it is not over
-abbrev pub endingNo : Ending → ℕ
-endingNo Left = 1
-endingNo Late = 2
-endingNo Cleared = 3
-endingNo NotOffered = 4
+abbrev pub ans : ℕ
+ans = 2
 
-abbrev pub wentOn : ℕ
-wentOn = 5
+abbrev pub sigA : ℕ
+sigA = 3
 
--- a line's state, its event, what else it asks for, and what comes next
-abbrev row : State → Event → When → Next → Row
-row from on when next = record { 0 = from; 1 = on; 2 = when; 3 = next }
+abbrev pub agreedJm : ℕ
+agreedJm = 4
+
+abbrev pub cjSent : ℕ
+cjSent = 5
+
+abbrev pub agreedCm : ℕ
+agreedCm = 6
+
+abbrev pub sigC : ℕ
+sigC = 7
+
+abbrev pub cj : ℕ
+cj = 8
+
+abbrev pub tick : ℕ
+tick = 9
+
+-- what a row asks for besides its state, its event and elapsed time
+abbrev pub always : ℕ
+always = 0
+
+abbrev pub teElapsed : ℕ
+teElapsed = 1
+
+abbrev pub noneChosen : ℕ
+noneChosen = 2
+
+abbrev pub jmRefused : ℕ
+jmRefused = 3
+
+abbrev pub chosenItem : ℕ
+chosenItem = 4
+
+-- a line's state, its event, the milliseconds elapsed, what else it asks for, the next state, and how the session ended
+abbrev row : ℕ → ℕ → ℕ → ℕ → ℕ → ℕ → Row
+row from on least when to ended = record { 0 = from; 1 = on; 2 = least; 3 = when; 4 = to; 5 = ended }
 
 -- "One constant table, by state and event, is the rule."; the first row that applies counts
 unfoldable pub rows : List Row
 rows =
     -- "elapsed 1,000: calling"
-    row CallerStill Tick (Elapsed 1000) (Enter Calling)
+    row callerStill tick 1000 always calling going
     -- "ANSam: quiet. ANS or sigA: over, left"
-    ∷ row Calling Ansam Always (Enter Quiet)
-    ∷ row Calling Ans Always (End Left)
-    ∷ row Calling SigA Always (End Left)
+    ∷ row calling ansam 0 always quiet going
+    ∷ row calling ans 0 always over left
+    ∷ row calling sigA 0 always over left
     -- "elapsed Te: menu (sends CM)"
-    ∷ row Quiet Tick ElapsedTe (Enter Menu)
+    ∷ row quiet tick 0 teElapsed menu going
     -- "agreed JM: closing (sends CJ); where the choice is refused with 11: over, not offered. Elapsed 10,000 (house): over, late"
-    ∷ row Menu AgreedJm RefusedWith11 (End NotOffered)
-    ∷ row Menu AgreedJm Always (Enter Closing)
-    ∷ row Menu Tick (Elapsed 10000) (End Late)
+    ∷ row menu agreedJm 0 jmRefused over notOffered
+    ∷ row menu agreedJm 0 always closing going
+    ∷ row menu tick 10000 always over late
     -- "CJ sent: pause; choice none: over, cleared"
-    ∷ row Closing CjSent NoneChosen (End Cleared)
-    ∷ row Closing CjSent Always (Enter Pause)
+    ∷ row closing cjSent 0 noneChosen over cleared
+    ∷ row closing cjSent 0 always pause going
     -- "elapsed 75: over, go on as chosen or left"
-    ∷ row Pause Tick (Elapsed 75) GoOnOrLeft
+    ∷ row pause tick 75 always over goesOn
     -- "elapsed 200: answering (sends ANSam)"
-    ∷ row AnswererStill Tick (Elapsed 200) (Enter Answering)
+    ∷ row answererStill tick 200 always answering going
     -- "agreed CM: joint (sends JM). sigC, or elapsed 5,000: pause, then left"
-    ∷ row Answering AgreedCm Always (Enter Joint)
-    ∷ row Answering SigC Always (Enter Pause)
-    ∷ row Answering Tick (Elapsed 5000) (Enter Pause)
+    ∷ row answering agreedCm 0 always joint going
+    ∷ row answering sigC 0 always pause going
+    ∷ row answering tick 5000 always pause going
     -- "CJ: pause, choice none: over, cleared. sigC of the chosen item: pause. Elapsed 10,000 (house): over, late"
-    ∷ row Joint Cj NoneChosen (End Cleared)
-    ∷ row Joint Cj Always (Enter Pause)
-    ∷ row Joint SigC ChosenItem (Enter Pause)
-    ∷ row Joint Tick (Elapsed 10000) (End Late)
+    ∷ row joint cj 0 noneChosen over cleared
+    ∷ row joint cj 0 always pause going
+    ∷ row joint sigC 0 chosenItem pause going
+    ∷ row joint tick 10000 always over late
     ∷ []

@@ -1,20 +1,15 @@
 // Steps: the session of an end, how it starts, and what an event changes in it.
 //
 // One constant table, by state and event, is the rule. A step tests the session, the event and the clock, and looks up the row.
-use Ending::*;
-use Event::*;
-use Next::*;
-use State::*;
-use When::*;
 use octets::Refusal;
 ghost use mathlib.Core.Path.{_≡_};
 ghost use Prim.Native.Nat.{_+_, _<_};
 ghost use mathlib.Core.List.{_∷_};
 ghost use lib.ListN.{drop};
 ghost use Rattle.octets.specs.Refusals.{number};
-ghost use Rattle.steps.specs.Table.{stateNo, eventNo, endingNo, rows};
+ghost use Rattle.steps.specs.Table.{rows};
 ghost use Rattle.steps.specs.Session.{between, isItem, isChoice, isTe, endFits, stateFits, early, choiceFits, endedFits, inRange, callerFrom, answererFrom, defaultTe, saysStarted, startedCaller};
-ghost use Rattle.steps.specs.Stepping.{elapsed, owns, carries, holds, applies, findRow, chosenAfter, renewed, inState, ends, taken, refuses, moved, timed, steppedIn, stepped, Steps};
+ghost use Rattle.steps.specs.Stepping.{says, Steps, elapsed, owns, carries, holds, applies, findRow, chosenAfter, renewed, endedAs, answerOf, entering, taken, moved, refuses, timed, steppedIn, stepped};
 
 // What an end keeps of its call, as numbers, since a host in C holds it; docs/RANGES.md says what they may be. The time of the
 // start or of the last change of state, Te, which end this is, its state, the choice, and how the session ended.
@@ -28,116 +23,117 @@ pub struct Session {
     pub ended: u8,
 }
 
+// The ends.
+pub const CALLER: u8 = 1;
+
+pub const ANSWERER: u8 = 2;
+
 // The states of both ends, in the order of document 01's table.
-pub enum State {
-    CallerStill,
-    Calling,
-    Quiet,
-    Menu,
-    Closing,
-    Pause,
-    AnswererStill,
-    Answering,
-    Joint,
-}
+pub const CALLER_STILL: u8 = 1;
+
+pub const CALLING: u8 = 2;
+
+pub const QUIET: u8 = 3;
+
+pub const MENU: u8 = 4;
+
+pub const CLOSING: u8 = 5;
+
+pub const PAUSE: u8 = 6;
+
+pub const ANSWERER_STILL: u8 = 7;
+
+pub const ANSWERING: u8 = 8;
+
+pub const JOINT: u8 = 9;
+
+pub const OVER: u8 = 10;
+
+// How a session ended. In a row GO_ON means as chosen, or left where nothing is.
+pub const GOING: u8 = 0;
+
+pub const LEFT: u8 = 1;
+
+pub const LATE: u8 = 2;
+
+pub const CLEARED: u8 = 3;
+
+pub const NOT_OFFERED: u8 = 4;
+
+pub const GO_ON: u8 = 5;
 
 // The caller's events, the answerer's, and the tick, which is for both.
-pub enum Event {
-    Ansam,
-    Ans,
-    SigA,
-    AgreedJm,
-    CjSent,
-    AgreedCm,
-    SigC,
-    Cj,
-    Tick,
-}
+pub const ANSAM: u8 = 1;
 
-// What a row asks for besides its state and its event.
-pub enum When {
-    Always,
-    Elapsed(u32),
-    ElapsedTe,
-    NoneChosen,
-    RefusedWith11,
-    ChosenItem,
-}
+pub const ANS: u8 = 2;
 
-// How a session ends that does not go on.
-pub enum Ending {
-    Left,
-    Late,
-    Cleared,
-    NotOffered,
-}
+pub const SIG_A: u8 = 3;
 
-// What a row leads to.
-pub enum Next {
-    Enter(State),
-    End(Ending),
-    GoOnOrLeft,
-}
+pub const AGREED_JM: u8 = 4;
 
-// In this state, at this event, where this holds: what comes next.
-pub struct Row(pub State, pub Event, pub When, pub Next);
+pub const CJ_SENT: u8 = 5;
+
+pub const AGREED_CM: u8 = 6;
+
+pub const SIG_C: u8 = 7;
+
+pub const CJ: u8 = 8;
+
+pub const TICK: u8 = 9;
+
+// What an agreed JM carries whose choice was refused with 11: no choice is as high.
+pub const REFUSED_WITH_11: u8 = 24;
+
+// What a row asks for besides its state, its event and elapsed time.
+const ALWAYS: u8 = 0;
+
+const TE_ELAPSED: u8 = 1;
+
+const NONE_CHOSEN: u8 = 2;
+
+const JM_REFUSED: u8 = 3;
+
+const CHOSEN_ITEM: u8 = 4;
+
+// In this state, at this event, with so many milliseconds elapsed, where this holds: the next state, and how the session ended.
+struct Row(u8, u8, u32, u8, u8, u8);
 
 // Document 01's table. The first row that applies counts, so an exception stands before the row that it is taken from.
 const ROWS: [Row; 19] = [
-    // Caller still
-    Row(CallerStill, Tick, Elapsed(1000), Enter(Calling)),
-    // Calling
-    Row(Calling, Ansam, Always, Enter(Quiet)),
-    Row(Calling, Ans, Always, End(Left)),
-    Row(Calling, SigA, Always, End(Left)),
-    // Quiet
-    Row(Quiet, Tick, ElapsedTe, Enter(Menu)),
-    // Menu
-    Row(Menu, AgreedJm, RefusedWith11, End(NotOffered)),
-    Row(Menu, AgreedJm, Always, Enter(Closing)),
-    Row(Menu, Tick, Elapsed(10000), End(Late)),
-    // Closing
-    Row(Closing, CjSent, NoneChosen, End(Cleared)),
-    Row(Closing, CjSent, Always, Enter(Pause)),
-    // Pause
-    Row(Pause, Tick, Elapsed(75), GoOnOrLeft),
-    // Answerer still
-    Row(AnswererStill, Tick, Elapsed(200), Enter(Answering)),
-    // Answering
-    Row(Answering, AgreedCm, Always, Enter(Joint)),
-    Row(Answering, SigC, Always, Enter(Pause)),
-    Row(Answering, Tick, Elapsed(5000), Enter(Pause)),
-    // Joint
-    Row(Joint, Cj, NoneChosen, End(Cleared)),
-    Row(Joint, Cj, Always, Enter(Pause)),
-    Row(Joint, SigC, ChosenItem, Enter(Pause)),
-    Row(Joint, Tick, Elapsed(10000), End(Late)),
+    // elapsed 1,000: calling
+    Row(CALLER_STILL, TICK, 1000, ALWAYS, CALLING, GOING),
+    // ANSam: quiet. ANS or sigA: over, left
+    Row(CALLING, ANSAM, 0, ALWAYS, QUIET, GOING),
+    Row(CALLING, ANS, 0, ALWAYS, OVER, LEFT),
+    Row(CALLING, SIG_A, 0, ALWAYS, OVER, LEFT),
+    // elapsed Te: menu (sends CM)
+    Row(QUIET, TICK, 0, TE_ELAPSED, MENU, GOING),
+    // agreed JM: closing (sends CJ); where the choice is refused with 11: over, not offered. Elapsed 10,000: over, late
+    Row(MENU, AGREED_JM, 0, JM_REFUSED, OVER, NOT_OFFERED),
+    Row(MENU, AGREED_JM, 0, ALWAYS, CLOSING, GOING),
+    Row(MENU, TICK, 10000, ALWAYS, OVER, LATE),
+    // CJ sent: pause; choice none: over, cleared
+    Row(CLOSING, CJ_SENT, 0, NONE_CHOSEN, OVER, CLEARED),
+    Row(CLOSING, CJ_SENT, 0, ALWAYS, PAUSE, GOING),
+    // elapsed 75: over, go on as chosen or left
+    Row(PAUSE, TICK, 75, ALWAYS, OVER, GO_ON),
+    // elapsed 200: answering (sends ANSam)
+    Row(ANSWERER_STILL, TICK, 200, ALWAYS, ANSWERING, GOING),
+    // agreed CM: joint (sends JM). sigC, or elapsed 5,000: pause, then left
+    Row(ANSWERING, AGREED_CM, 0, ALWAYS, JOINT, GOING),
+    Row(ANSWERING, SIG_C, 0, ALWAYS, PAUSE, GOING),
+    Row(ANSWERING, TICK, 5000, ALWAYS, PAUSE, GOING),
+    // CJ: pause, choice none: over, cleared. sigC of the chosen item: pause. Elapsed 10,000: over, late
+    Row(JOINT, CJ, 0, NONE_CHOSEN, OVER, CLEARED),
+    Row(JOINT, CJ, 0, ALWAYS, PAUSE, GOING),
+    Row(JOINT, SIG_C, 0, CHOSEN_ITEM, PAUSE, GOING),
+    Row(JOINT, TICK, 10000, ALWAYS, OVER, LATE),
 ];
-
-// The numbers of a session and of events that the functions below name.
-const CALLER: u8 = 1;
-
-const ANSWERER: u8 = 2;
-
-const OVER: u8 = 10;
-
-const WENT_ON: u8 = 5;
-
-const AGREED_JM: u8 = 4;
-
-const AGREED_CM: u8 = 6;
-
-const SIG_C: u8 = 7;
-
-const TICK: u8 = 9;
-
-// What an agreed JM carries whose choice was refused with 11: no choice is as high.
-const REFUSED_WITH_11: u8 = 24;
 
 // Te without a value.
 const DEFAULT_TE: u32 = 500;
 
-// Half the range of the clock: so much has not passed since, it is before.
+// Half the range of the clock: a time that is as far away lies before.
 const HALF_RANGE: u32 = 2147483648;
 
 enum Found {
@@ -145,11 +141,12 @@ enum Found {
     Nothing,
 }
 
-// What an event is answered: nothing changed, a state was entered, the session is over, or a refusal. Going on carries the choice.
+// What an event is answered: nothing changed, a state was entered, the session ended in this way or goes on with this choice, or a
+// refusal.
 pub enum Answer {
     Same,
-    Entered(State),
-    Over(Ending),
+    Entered(u8),
+    Ended(u8),
     GoOn(u8),
     Refused(Refusal),
 }
@@ -165,50 +162,7 @@ pub enum Started {
     Refused(Refusal),
 }
 
-fn state_number(state: State) -> u8
-    ensures { λ n. ⌜ n ≡ stateNo state ⌝ }
-{
-    match state {
-        State::CallerStill => 1,
-        State::Calling => 2,
-        State::Quiet => 3,
-        State::Menu => 4,
-        State::Closing => 5,
-        State::Pause => 6,
-        State::AnswererStill => 7,
-        State::Answering => 8,
-        State::Joint => 9,
-    }
-}
-
-fn event_number(event: Event) -> u8
-    ensures { λ n. ⌜ n ≡ eventNo event ⌝ }
-{
-    match event {
-        Event::Ansam => 1,
-        Event::Ans => 2,
-        Event::SigA => 3,
-        Event::AgreedJm => 4,
-        Event::CjSent => 5,
-        Event::AgreedCm => 6,
-        Event::SigC => 7,
-        Event::Cj => 8,
-        Event::Tick => 9,
-    }
-}
-
-fn ending_number(ending: Ending) -> u8
-    ensures { λ n. ⌜ n ≡ endingNo ending ⌝ }
-{
-    match ending {
-        Ending::Left => 1,
-        Ending::Late => 2,
-        Ending::Cleared => 3,
-        Ending::NotOffered => 4,
-    }
-}
-
-fn is_between(low: u32, high: u32, n: u32) -> bool
+fn is_between(low: u8, high: u8, n: u8) -> bool
     ensures { λ r. ⌜ r ≡ between low high n ⌝ }
 {
     if low <= n { n <= high } else { false }
@@ -217,7 +171,7 @@ fn is_between(low: u32, high: u32, n: u32) -> bool
 fn is_item(value: u8) -> bool
     ensures { λ r. ⌜ r ≡ isItem value ⌝ }
 {
-    is_between(1, 12, value as u32)
+    is_between(1, 12, value)
 }
 
 // A choice as a number: 0 for none, an item, or 16 and the PCM options.
@@ -230,13 +184,13 @@ fn is_choice(value: u8) -> bool
     if is_item(value) {
         return true;
     }
-    is_between(17, 23, value as u32)
+    is_between(17, 23, value)
 }
 
 fn is_te(te: u32) -> bool
     ensures { λ r. ⌜ r ≡ isTe te ⌝ }
 {
-    is_between(500, 5000, te)
+    if 500 <= te { te <= 5000 } else { false }
 }
 
 // Which end this is, and its Te; the answerer has none.
@@ -259,19 +213,19 @@ fn state_fits(end: u8, state: u8) -> bool
         return true;
     }
     if end == CALLER {
-        return is_between(1, 6, state as u32);
+        return is_between(CALLER_STILL, PAUSE, state);
     }
-    is_between(6, 9, state as u32)
+    is_between(PAUSE, JOINT, state)
 }
 
 // A state before a menu is agreed.
 fn is_early(state: u8) -> bool
     ensures { λ r. ⌜ r ≡ early state ⌝ }
 {
-    if state < 5 {
+    if state < CLOSING {
         return true;
     }
-    is_between(7, 8, state as u32)
+    is_between(ANSWERER_STILL, ANSWERING, state)
 }
 
 fn choice_fits(state: u8, none: bool) -> bool
@@ -287,12 +241,12 @@ fn ended_fits(state: u8, none: bool, ended: u8) -> bool
     ensures { λ r. ⌜ r ≡ endedFits state none ended ⌝ }
 {
     if state == OVER {
-        if ended == WENT_ON {
+        if ended == GO_ON {
             return !none;
         }
-        return is_between(1, 4, ended as u32);
+        return is_between(LEFT, NOT_OFFERED, ended);
     }
-    ended == 0
+    ended == GOING
 }
 
 fn in_range(session: Session) -> bool
@@ -315,46 +269,46 @@ fn in_range(session: Session) -> bool
     false
 }
 
-fn caller_from(now: u32, te: u32) -> Session
-    ensures { λ r. ⌜ r ≡ callerFrom now te ⌝ }
+fn caller_from(start: u32, te: u32) -> Session
+    ensures { λ r. ⌜ r ≡ callerFrom start te ⌝ }
 {
     Session {
-        entry: now,
+        entry: start,
         te: te,
         end: CALLER,
-        state: 1,
+        state: CALLER_STILL,
         chosen: 0,
-        ended: 0,
+        ended: GOING,
     }
 }
 
 // A caller's start with a given Te.
-pub fn start_caller(now: u32, te: u32) -> Started
-    ensures { λ r. ⌜ saysStarted r ≡ startedCaller now te ⌝ }
+pub fn start_caller(start: u32, te: u32) -> Started
+    ensures { λ r. ⌜ saysStarted r ≡ startedCaller start te ⌝ }
 {
     if is_te(te) {
-        return Started::Ready(caller_from(now, te));
+        return Started::Ready(caller_from(start, te));
     }
     Started::Refused(Refusal::BadRecord)
 }
 
 // A caller's start without a value for Te.
-pub fn start_caller_default(now: u32) -> Session
-    ensures { λ r. ⌜ r ≡ callerFrom now defaultTe ⌝ }
+pub fn start_caller_default(start: u32) -> Session
+    ensures { λ r. ⌜ r ≡ callerFrom start defaultTe ⌝ }
 {
-    caller_from(now, DEFAULT_TE)
+    caller_from(start, DEFAULT_TE)
 }
 
-pub fn start_answerer(now: u32) -> Session
-    ensures { λ r. ⌜ r ≡ answererFrom now ⌝ }
+pub fn start_answerer(start: u32) -> Session
+    ensures { λ r. ⌜ r ≡ answererFrom start ⌝ }
 {
     Session {
-        entry: now,
+        entry: start,
         te: 0,
         end: ANSWERER,
-        state: 7,
+        state: ANSWERER_STILL,
         chosen: 0,
-        ended: 0,
+        ended: GOING,
     }
 }
 
@@ -372,9 +326,9 @@ fn is_own(end: u8, event: u8) -> bool
         return true;
     }
     if end == CALLER {
-        return event < AGREED_CM;
+        return is_between(ANSAM, CJ_SENT, event);
     }
-    AGREED_CM <= event
+    is_between(AGREED_CM, CJ, event)
 }
 
 // Whether an event may carry this value. Events that carry nothing have no value to be tested.
@@ -396,28 +350,33 @@ fn may_carry(event: u8, value: u8) -> bool
     true
 }
 
-fn does_hold(when: When, session: Session, value: u8, passed: u32) -> bool
+fn does_hold(when: u8, session: Session, value: u8, passed: u32) -> bool
     ensures { λ r. ⌜ r ≡ holds when session value passed ⌝ }
 {
-    match when {
-        When::Always => true,
-        When::Elapsed(least) => least <= passed,
-        When::ElapsedTe => session.te <= passed,
-        When::NoneChosen => session.chosen == 0,
-        When::RefusedWith11 => value == REFUSED_WITH_11,
-        When::ChosenItem => value == session.chosen,
+    if when == TE_ELAPSED {
+        return session.te <= passed;
     }
+    if when == NONE_CHOSEN {
+        return session.chosen == 0;
+    }
+    if when == JM_REFUSED {
+        return value == REFUSED_WITH_11;
+    }
+    if when == CHOSEN_ITEM {
+        return value == session.chosen;
+    }
+    true
 }
 
 fn row_applies(row: Row, session: Session, event: u8, value: u8, passed: u32) -> bool
     ensures { λ r. ⌜ r ≡ applies session event value passed row ⌝ }
 {
-    let from = row.0;
-    let on = row.1;
-    let when = row.2;
-    if state_number(from) == session.state {
-        if event_number(on) == event {
-            return does_hold(when, session, value, passed);
+    if row.0 == session.state {
+        if row.1 == event {
+            if row.2 <= passed {
+                return does_hold(row.3, session, value, passed);
+            }
+            return false;
         }
         return false;
     }
@@ -475,58 +434,51 @@ fn renew(session: Session, event: u8, value: u8, now: u32) -> Session
     }
 }
 
-fn in_state(session: Session, state: u8, ended: u8) -> Session
-    ensures { λ r. ⌜ r ≡ inState session state ended ⌝ }
+// Going on without a choice is leaving.
+fn ending_of(ended: u8, chosen: u8) -> u8
+    ensures { λ r. ⌜ r ≡ endedAs ended chosen ⌝ }
 {
-    Session {
-        entry: session.entry,
-        te: session.te,
-        end: session.end,
-        state: state,
-        chosen: session.chosen,
-        ended: ended,
-    }
-}
-
-// The session is over, without going on.
-fn end_as(session: Session, ending: Ending) -> Stepped
-    ensures { λ r. ⌜ Steps (ends session ending) r ⌝ }
-{
-    let next = in_state(session, OVER, ending_number(ending));
-    Stepped {
-        session: next,
-        answer: Answer::Over(ending),
-    }
-}
-
-// Goes on as chosen, or is left where nothing is.
-fn go_on_or_leave(session: Session) -> Stepped
-    ensures { λ r. ⌜ Steps (taken session Next.GoOnOrLeft) r ⌝ }
-{
-    if session.chosen == 0 {
-        return end_as(session, Ending::Left);
-    }
-    let next = in_state(session, OVER, WENT_ON);
-    Stepped {
-        session: next,
-        answer: Answer::GoOn(session.chosen),
-    }
-}
-
-fn take(session: Session, next: Next) -> Stepped
-    ensures { λ r. ⌜ Steps (taken session next) r ⌝ }
-{
-    match next {
-        Next::Enter(state) => {
-            let entered = in_state(session, state_number(state), 0);
-            Stepped {
-                session: entered,
-                answer: Answer::Entered(state),
-            }
+    if ended == GO_ON {
+        if chosen == 0 {
+            return LEFT;
         }
-        Next::End(ending) => end_as(session, ending),
-        Next::GoOnOrLeft => go_on_or_leave(session),
+        return GO_ON;
     }
+    ended
+}
+
+fn answer_of(state: u8, ended: u8, chosen: u8) -> Answer
+    ensures { λ r. ⌜ says r ≡ answerOf state ended chosen ⌝ }
+{
+    if state == OVER {
+        if ended == GO_ON {
+            return Answer::GoOn(chosen);
+        }
+        return Answer::Ended(ended);
+    }
+    Answer::Entered(state)
+}
+
+fn enter(session: Session, state: u8, ended: u8) -> Stepped
+    ensures { λ r. ⌜ Steps (entering session state ended) r ⌝ }
+{
+    Stepped {
+        session: Session {
+            entry: session.entry,
+            te: session.te,
+            end: session.end,
+            state: state,
+            chosen: session.chosen,
+            ended: ended,
+        },
+        answer: answer_of(state, ended, session.chosen),
+    }
+}
+
+fn take(session: Session, state: u8, ended: u8) -> Stepped
+    ensures { λ r. ⌜ Steps (taken session state ended) r ⌝ }
+{
+    enter(session, state, ending_of(ended, session.chosen))
 }
 
 // The row that applies is taken; where none does, nothing changes.
@@ -540,8 +492,7 @@ fn step_on(session: Session, event: u8, value: u8, now: u32, passed: u32) -> Ste
             answer: Answer::Same,
         };
     };
-    let next = row.3;
-    take(renew(session, event, value, now), next)
+    take(renew(session, event, value, now), row.4, row.5)
 }
 
 fn refuse(session: Session, refusal: Refusal) -> Stepped
@@ -580,13 +531,13 @@ fn step_in(session: Session, event: u8, value: u8, now: u32) -> Stepped
     refuse(session, Refusal::WrongEvent)
 }
 
-// An event, what it carries, and its time. A choice is carried as the session holds it, and 24 by an agreed JM whose choice was
-// refused with 11; sigC carries an item. Other events carry nothing, and their value is not looked at.
-pub fn step(session: Session, event: Event, value: u8, now: u32) -> Stepped
+// An event, what it carries, and its time. A choice is carried as the session holds it, REFUSED_WITH_11 by an agreed JM alone; sigC
+// carries an item. Other events carry nothing, and their value is not looked at. A number that is no event is no event of this end.
+pub fn step(session: Session, event: u8, value: u8, now: u32) -> Stepped
     ensures { λ r. ⌜ Steps (stepped session event value now) r ⌝ }
 {
     if in_range(session) {
-        return step_in(session, event_number(event), value, now);
+        return step_in(session, event, value, now);
     }
     refuse(session, Refusal::BadRecord)
 }

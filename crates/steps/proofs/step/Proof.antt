@@ -6,17 +6,12 @@ use Rattle.steps.proofs.step.Tie as tie
 in-range-requires : tie.Need-in-range-requires
 in-range-requires c κs = search needs
 
-event-number-requires : tie.Need-event-number-requires
-event-number-requires c κs = search needs
-
 step-in-requires : tie.Need-step-in-requires
 step-in-requires c κs = search needs
 
 returns : tie.Need-returns
 unfolding choose
-returns c =
-    let s = rw (c .before .event-number .ensures) at (c .step-in .ensures) in
-    simp (← c .before .before .before .in-range .ensures, c .before .before .if1 .taken) s
+returns c = simp (← c .before .before .in-range .ensures, c .before .if1 .taken) (c .step-in .ensures)
 
 refuse-requires : tie.Need-refuse-requires
 refuse-requires c κs = search needs
@@ -27,11 +22,4 @@ returns-2 c = simp (← c .before .before .in-range .ensures, c .before .if1 .le
 
 pub step-spec : {M : Type 1} → statement M
 step-spec =
-    tie.close
-    (tie.spec
-    in-range-requires
-    event-number-requires
-    step-in-requires
-    returns
-    refuse-requires
-    returns-2)
+    tie.close (tie.spec in-range-requires step-in-requires returns refuse-requires returns-2)
