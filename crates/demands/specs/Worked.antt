@@ -11,6 +11,10 @@ use Rattle.sequences.specs.Line.{sequence}
 use Rattle.sequences.specs.Writing.{Said, bits, refusal, written}
 use Rattle.offers.specs.Choosing.{Chosen, none, item, pcm, choiceOf}
 use Rattle.offers.specs.Choosing as choosing
+use Rattle.steps.specs.declared.Session.{Session}
+use Rattle.steps.specs.Table.{quiet, menu, going, tick}
+use Rattle.steps.specs.Session.{caller}
+use Rattle.steps.specs.Stepping.{elapsed, stepped}
 
 -- a line of the table: what is asked, and what document 01 says comes of it
 pub data Case : Type 0 where
@@ -20,6 +24,10 @@ pub data Case : Type 0 where
   writes : Kind → List ℕ → ℕ → ℕ → Said → Case
   -- CM, JM, and the choice from them
   chooses : List ℕ → List ℕ → Chosen → Case
+  -- the entry time, a later time, and what is elapsed between them
+  lasts : ℕ → ℕ → ℕ → Case
+  -- a session, the time of a tick, and the state behind it
+  ticks : Session → ℕ → ℕ → Case
 
 abbrev sameSaid : Said → Said → Bool
 sameSaid (bits m) (bits n) = eqb m n
@@ -38,11 +46,17 @@ chosenNumber (choosing.refusal n) = 32 + n
 abbrev pub holds : Case → Bool
 holds (stands kind octets line) = sameList (sequence kind octets) line
 holds (chooses cm jm chosen) = eqb (chosenNumber (choiceOf cm jm)) (chosenNumber chosen)
+holds (lasts entry now passed) = eqb (elapsed now entry) passed
+holds (ticks session now state) = eqb (stepped session tick 0 now .session .state) state
 holds (writes kind octets n room said) = sameSaid (written kind octets n (replicate room 0) .answer) said
 
 -- "CM of A is C1 45 13 90 2A"
 abbrev pub cmOfA : List ℕ
 cmOfA = 0xC1 ∷ 0x45 ∷ 0x13 ∷ 0x90 ∷ 0x2A ∷ []
+
+-- quiet, with Te 500
+abbrev pub quietFrom : ℕ → Session
+quietFrom entry = record { entry = entry; te = 500; end = caller; state = quiet; chosen = 0; ended = going }
 
 abbrev pub worked : List Case
 worked =
@@ -62,4 +76,9 @@ worked =
     -- "buffer of 69 bytes for one copy of A's CM: 6; 70 is enough."
     ∷ writes Menu cmOfA 1 69 (refusal 6)
     ∷ writes Menu cmOfA 1 70 (bits 70)
+    -- "elapsed from 4,294,967,000 to 79 is 375; to 204 it is 500, and Quiet with Te 500 ends."
+    ∷ lasts 4294967000 79 375
+    ∷ ticks (quietFrom 4294967000) 79 quiet
+    ∷ lasts 4294967000 204 500
+    ∷ ticks (quietFrom 4294967000) 204 menu
     ∷ []
