@@ -13,7 +13,7 @@ use Rattle.laws.proofs.Computed.{both-left, both-right, below}
 use Rattle.steps.specs.declared.Session.{Session}
 use Rattle.steps.specs.declared.Row.{Row}
 use Rattle.steps.specs.Table.{left, goesOn, agreedJm, agreedCm, rows}
-use Rattle.steps.specs.Session.{isChoice, isTe, endFits, stateFits, choiceFits, endedFits, inRange, caller, answerer, callerFrom, answererFrom}
+use Rattle.steps.specs.Session.{isChoice, isTe, endFits, stateFits, choiceFits, endedFits, inRange, caller, answerer, callerFrom, answererFrom, defaultTe, Start, ready, refusal, startedCaller}
 use Rattle.steps.specs.Stepping.{Outcome, owns, refusedWith11, chosenAfter, renewed, taken, refuses, stepped}
 use Rattle.steps.proofs.Known.{is-so, taken-if}
 use Rattle.steps.proofs.Rows.{Taken, step-case}
@@ -119,10 +119,21 @@ unfolding choose
 stepped-outside s event value now h = simp h
 
 -- the starts
-pub caller-range : (now te : ℕ) → isTe te ≡ true → inRange (callerFrom now te) ≡ true
+caller-range : (start te : ℕ) → isTe te ≡ true → inRange (callerFrom start te) ≡ true
 unfolding choose both either
-caller-range now te h = fits-range _ (record { end = h; state = refl; choice = refl; chosen = refl; ended = refl })
+caller-range start te h = fits-range _ (record { end = h; state = refl; choice = refl; chosen = refl; ended = refl })
 
-pub answerer-range : (now : ℕ) → inRange (answererFrom now) ≡ true
+abbrev pub StartFits : Start → Type 0
+StartFits (ready s) = inRange s ≡ true
+StartFits (refusal n) = Unit
+
+pub started-range : (start te : ℕ) → StartFits (startedCaller start te)
+started-range start te = chosen StartFits (isTe te) (ready (callerFrom start te)) (refusal 10) (caller-range start te) (λ _. tt)
+
+pub default-range : (start : ℕ) → inRange (callerFrom start defaultTe) ≡ true
+unfolding both
+default-range start = caller-range start defaultTe refl
+
+pub answerer-range : (start : ℕ) → inRange (answererFrom start) ≡ true
 unfolding choose both either
-answerer-range now = fits-range _ (record { end = refl; state = refl; choice = refl; chosen = refl; ended = refl })
+answerer-range start = fits-range _ (record { end = refl; state = refl; choice = refl; chosen = refl; ended = refl })

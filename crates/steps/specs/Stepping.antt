@@ -112,7 +112,7 @@ abbrev pub moved : Session → ℕ → ℕ → ℕ → Found → Outcome
 moved s event value now (At r) = taken (renewed s event value now) (r .4) (r .5)
 moved s event value now Nothing = record { answer = same; session = s }
 
--- "A refusal carries its number alone. .. the session keep[s its] values."
+-- "A refusal carries its number alone. Buffers and the session keep their values."
 abbrev pub refuses : ℕ → Session → Outcome
 refuses n s = record { answer = refusal n; session = s }
 
