@@ -9,6 +9,7 @@ use Rattle.steps.specs.declared.Started.{Started}
 use Rattle.steps.specs.declared.Started.the-variants.{Ready, Refused}
 use Rattle.steps.specs.Table.{callerStill, closing, pause, answererStill, answering, joint, over, going, left, notOffered, goesOn}
 
+-- from low to high, both counted
 abbrev pub between : ℕ → ℕ → ℕ → Bool
 between low high n = both (leb low n) (leb n high)
 

@@ -75,6 +75,7 @@ holds when s value passed =
 unfoldable pub applies : Session → ℕ → ℕ → ℕ → Row → Bool
 applies s event value passed r = both (eqb (r .0) (s .state)) (both (eqb (r .1) event) (both (leb (r .2) passed) (holds (r .3) s value passed)))
 
+-- the first row that applies
 unfoldable pub findRow : Session → ℕ → ℕ → ℕ → List Row → Found
 findRow s event value passed [] = Nothing
 findRow s event value passed (r ∷ rs) = choose (applies s event value passed r) (At r) (findRow s event value passed rs)
@@ -97,6 +98,7 @@ endedAs how chosen = choose (eqb how goesOn) (choose (eqb chosen 0) left goesOn)
 abbrev pub answerOf : ℕ → ℕ → ℕ → Answered
 answerOf state how chosen = choose (eqb state over) (choose (eqb how goesOn) (goOn chosen) (ended how)) (entered state)
 
+-- the session in this state, and what that is answered
 abbrev pub entering : Session → ℕ → ℕ → Outcome
 entering s state how = record {
   answer = answerOf state how (s .chosen);

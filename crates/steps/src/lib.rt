@@ -136,6 +136,7 @@ const DEFAULT_TE: u32 = 500;
 // Half the range of the clock: a time that is as far away lies before.
 const HALF_RANGE: u32 = 2147483648;
 
+// What looking a row up finds.
 enum Found {
     At(Row),
     Nothing,
