@@ -33,7 +33,7 @@ enum tailsprig_refusal {
     TAILSPRIG_AFTER_OVER = 7,       /* an event after the session was over */
     TAILSPRIG_CLOCK = 8,            /* the clock ran backwards, or half its range has passed */
     TAILSPRIG_WRONG_EVENT = 9,      /* an event of the other end, or a value outside its range */
-    TAILSPRIG_BAD_RECORD = 10,      /* a record or a kind outside its range */
+    TAILSPRIG_BAD_RECORD = 10,      /* a record, a session, Te or a kind outside its range */
     TAILSPRIG_NOT_OFFERED = 11,     /* the choice was not offered */
     TAILSPRIG_WRONG_CATEGORY = 12,  /* in writing: tag 0, or another category in CI */
     TAILSPRIG_CUT_SHORT = 13        /* a sequence cut short */
@@ -264,6 +264,97 @@ uint8_t tailsprig_call_function(struct tailsprig_record own, const uint8_t *hear
  *   11  the functions differ, JM's lowest item is not in CM, or no PCM option pairs
  */
 int32_t tailsprig_choice(const uint8_t *cm, size_t cm_len, const uint8_t *jm, size_t jm_len);
+
+/*
+ * Sessions. A host keeps one for each call, at each end, and hands it every event with its time. The clock is a free-running
+ * count of milliseconds that wraps. The numbers are the library's: a host copies and stores them, and changes none. A
+ * session with a number outside its range is refused with 10 and keeps its value; the starts and every step give sessions
+ * within the ranges.
+ */
+enum tailsprig_end { TAILSPRIG_CALLER = 1, TAILSPRIG_ANSWERER = 2 };
+
+enum tailsprig_state {
+    TAILSPRIG_STATE_CALLER_STILL = 1,
+    TAILSPRIG_STATE_CALLING = 2,
+    TAILSPRIG_STATE_QUIET = 3,
+    TAILSPRIG_STATE_MENU = 4,    /* send CM */
+    TAILSPRIG_STATE_CLOSING = 5, /* send CJ */
+    TAILSPRIG_STATE_PAUSE = 6,   /* both ends' */
+    TAILSPRIG_STATE_ANSWERER_STILL = 7,
+    TAILSPRIG_STATE_ANSWERING = 8, /* send ANSam */
+    TAILSPRIG_STATE_JOINT = 9,     /* send JM */
+    TAILSPRIG_STATE_OVER = 10      /* both ends' */
+};
+
+enum tailsprig_ended {
+    TAILSPRIG_ENDED_GOING = 0, /* not over */
+    TAILSPRIG_ENDED_LEFT = 1,
+    TAILSPRIG_ENDED_LATE = 2,
+    TAILSPRIG_ENDED_CLEARED = 3,
+    TAILSPRIG_ENDED_NOT_OFFERED = 4,
+    TAILSPRIG_ENDED_GO_ON = 5 /* with what was chosen */
+};
+
+struct tailsprig_session {
+    uint32_t entry; /* the time of the start or of the last change of state. Any number */
+    uint32_t te;    /* how long the caller is quiet: 500 to 5,000; 0 for the answerer */
+    uint8_t end;    /* tailsprig_end */
+    uint8_t state;  /* tailsprig_state: of this end */
+    uint8_t chosen; /* as tailsprig_choice answers it: 0, 1 to 12, 17 to 23; 0 before a menu is agreed */
+    uint8_t ended;  /* tailsprig_ended: 0 exactly while the state is not TAILSPRIG_STATE_OVER; 5 only with a choice */
+};
+
+struct tailsprig_caller_start {
+    struct tailsprig_session session; /* all 0 beside a refusal */
+    int32_t code;                     /* 0, or a refusal n as -n */
+};
+
+/* A caller's session from this time on. Refusal 10: te is not 500 to 5,000. */
+struct tailsprig_caller_start tailsprig_start_caller(uint32_t start, uint32_t te);
+
+/* The same without a value for Te, which then is 500. */
+struct tailsprig_session tailsprig_start_caller_default(uint32_t start);
+
+/* An answerer's session from this time on. */
+struct tailsprig_session tailsprig_start_answerer(uint32_t start);
+
+enum tailsprig_event {
+    TAILSPRIG_EVENT_ANSAM = 1,     /* the caller's, to CJ sent */
+    TAILSPRIG_EVENT_ANS = 2,
+    TAILSPRIG_EVENT_SIG_A = 3,
+    TAILSPRIG_EVENT_AGREED_JM = 4, /* carries what tailsprig_choice answered: a choice, or -11 */
+    TAILSPRIG_EVENT_CJ_SENT = 5,
+    TAILSPRIG_EVENT_AGREED_CM = 6, /* the answerer's, to CJ; this one carries the choice, from CM and the JM that answers it */
+    TAILSPRIG_EVENT_SIG_C = 7,     /* carries an item, 1 to 12 */
+    TAILSPRIG_EVENT_CJ = 8,
+    TAILSPRIG_EVENT_TICK = 9 /* both ends': time has passed */
+};
+
+/* What a step's code adds to how a session ended, and to the choice that it goes on with. */
+#define TAILSPRIG_ENDED 16
+#define TAILSPRIG_GO_ON 32
+
+struct tailsprig_step_taken {
+    struct tailsprig_session session; /* behind the event; on a refusal as it was */
+    int32_t code;
+};
+
+/*
+ * Takes an event of this end, what it carries (not looked at where it carries nothing), and its time. The code is
+ *    0          nothing changed
+ *    1 to 9     the state entered
+ *   17 to 20    over: TAILSPRIG_ENDED + left, late, cleared or not offered
+ *   33 to 55    over: TAILSPRIG_GO_ON + the choice, as tailsprig_choice answers it
+ *
+ * Refusals, in this order:
+ *   10  a number of the session is outside its range
+ *    7  the session is over
+ *    9  an event of the other end, or a number that is no event; a value that the event may not carry
+ *    8  the time is before the entry time, or 2^31 ms and more behind it
+ *
+ * Elapsed time is looked at on a tick alone, and one tick makes one change at most.
+ */
+struct tailsprig_step_taken tailsprig_step(struct tailsprig_session session, uint8_t event, int32_t value, uint32_t now);
 
 #ifdef __cplusplus
 }

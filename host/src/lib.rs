@@ -2,6 +2,7 @@
 //! becomes an `Err`, and a slice becomes the pointer and the length that C passes.
 
 pub mod plain;
+pub mod steps;
 pub mod text;
 
 /// The structs and functions as they are declared in `include/tailsprig.h`.
@@ -77,6 +78,31 @@ pub mod c {
         pub digital: u8,
     }
 
+    #[derive(Clone, Copy, Debug, PartialEq, Eq)]
+    #[repr(C)]
+    pub struct Session {
+        pub entry: u32,
+        pub te: u32,
+        pub end: u8,
+        pub state: u8,
+        pub chosen: u8,
+        pub ended: u8,
+    }
+
+    #[derive(Clone, Copy, Debug, PartialEq, Eq)]
+    #[repr(C)]
+    pub struct CallerStart {
+        pub session: Session,
+        pub code: i32,
+    }
+
+    #[derive(Clone, Copy, Debug, PartialEq, Eq)]
+    #[repr(C)]
+    pub struct StepTaken {
+        pub session: Session,
+        pub code: i32,
+    }
+
     extern "C" {
         pub fn tailsprig_write(
             kind: u8,
@@ -109,6 +135,10 @@ pub mod c {
             own_cm_len: usize,
         ) -> u8;
         pub fn tailsprig_choice(cm: *const u8, cm_len: usize, jm: *const u8, jm_len: usize) -> i32;
+        pub fn tailsprig_start_caller(start: u32, te: u32) -> CallerStart;
+        pub fn tailsprig_start_caller_default(start: u32) -> Session;
+        pub fn tailsprig_start_answerer(start: u32) -> Session;
+        pub fn tailsprig_step(session: Session, event: u8, value: i32, now: u32) -> StepTaken;
     }
 }
 
@@ -264,13 +294,19 @@ pub enum Choice {
     Pcm(u8),
 }
 
+impl Choice {
+    /// The choice that a number of the header stands for.
+    fn of(code: u8) -> Self {
+        match code {
+            0 => Choice::Nothing,
+            1..=12 => Choice::Item(code),
+            _ => Choice::Pcm(code - 16),
+        }
+    }
+}
+
 /// The choice from CM and JM.
 pub fn choice(cm: &[u8], jm: &[u8]) -> Result<Choice, Refusal> {
     // SAFETY: both slices are lent for the call alone, with their lengths.
-    let code = count(unsafe { c::tailsprig_choice(cm.as_ptr(), cm.len(), jm.as_ptr(), jm.len()) })? as u8;
-    Ok(match code {
-        0 => Choice::Nothing,
-        1..=12 => Choice::Item(code),
-        _ => Choice::Pcm(code - 16),
-    })
+    count(unsafe { c::tailsprig_choice(cm.as_ptr(), cm.len(), jm.as_ptr(), jm.len()) }).map(|code| Choice::of(code as u8))
 }

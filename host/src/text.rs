@@ -1,7 +1,8 @@
 //! The texts of the vector files: octets, bits, records, refusals and reports.
 use crate::{
     c::{Modes, Record},
-    Kind, Refusal, Report,
+    steps::{Answer, Event, State},
+    Choice, Kind, Refusal, Report,
 };
 
 /// Octets as two upper-case hex digits each, single spaces between; `-` is the empty list.
@@ -118,4 +119,68 @@ impl Reports {
         }
         self.shown.join(" ")
     }
+}
+
+/// `none`, `itemN` or `pcmN`.
+fn choice(text: &str) -> Result<Choice, String> {
+    if text == "none" {
+        return Ok(Choice::Nothing);
+    }
+    if let Some(item) = text.strip_prefix("item") {
+        return number(item).map(Choice::Item);
+    }
+    match text.strip_prefix("pcm") {
+        Some(options) => number(options).map(Choice::Pcm),
+        None => Err(format!("'{text}' is no choice")),
+    }
+}
+
+/// `NAME@TIME`, with `=` and what it carries behind that.
+pub fn event(text: &str) -> Result<(Event, u32), String> {
+    let (name, rest) = text.split_once('@').ok_or(format!("'{text}' has no time"))?;
+    let (time, value) = match rest.split_once('=') {
+        Some((time, value)) => (time, Some(value)),
+        None => (rest, None),
+    };
+    let event = match (name, value) {
+        ("tick", None) => Event::Tick,
+        ("ansam", None) => Event::Ansam,
+        ("ans", None) => Event::Ans,
+        ("siga", None) => Event::SigA,
+        ("jm", Some("R11")) => Event::AgreedJm(Err(Refusal(11))),
+        ("jm", Some(value)) => Event::AgreedJm(Ok(choice(value)?)),
+        ("cjsent", None) => Event::CjSent,
+        ("cm", Some(value)) => Event::AgreedCm(choice(value)?),
+        ("sigc", Some(value)) => match choice(value)? {
+            Choice::Item(item) => Event::SigC(item),
+            _ => return Err(format!("'{value}' is no item")),
+        },
+        ("cj", None) => Event::Cj,
+        _ => return Err(format!("'{text}' is no event")),
+    };
+    Ok((event, number(time)?))
+}
+
+/// `same`, the state entered, or `over-` and how the session ended.
+pub fn show_answer(answer: Answer) -> String {
+    let name = match answer {
+        Answer::Same => "same",
+        Answer::Entered(State::CallerStill) => "caller-still",
+        Answer::Entered(State::Calling) => "calling",
+        Answer::Entered(State::Quiet) => "quiet",
+        Answer::Entered(State::Menu) => "menu",
+        Answer::Entered(State::Closing) => "closing",
+        Answer::Entered(State::Pause) => "pause",
+        Answer::Entered(State::AnswererStill) => "answerer-still",
+        Answer::Entered(State::Answering) => "answering",
+        Answer::Entered(State::Joint) => "joint",
+        Answer::Left => "over-left",
+        Answer::Late => "over-late",
+        Answer::Cleared => "over-cleared",
+        Answer::NotOffered => "over-not-offered",
+        Answer::GoOn(Choice::Nothing) => "over-go-on-none",
+        Answer::GoOn(Choice::Item(item)) => return format!("over-go-on-item-{item}"),
+        Answer::GoOn(Choice::Pcm(options)) => return format!("over-go-on-pcm-{options}"),
+    };
+    name.to_string()
 }

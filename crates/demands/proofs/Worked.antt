@@ -12,8 +12,11 @@ use Rattle.menus.specs.Offer.{menuRead}
 use Rattle.records.specs.Record.{modesAt, anyBad, badRecord}
 use Rattle.offers.specs.Making.{modulationGroup, joined, paired}
 use Rattle.offers.specs.Choosing.{lowestFrom, pcmChoice, itemChoice, chosenFrom}
+use Rattle.steps.specs.Table.{rows}
+use Rattle.steps.specs.Session.{inRange}
+use Rattle.steps.specs.Stepping.{elapsed, applies, findRow, timed, steppedIn}
 use Rattle.demands.specs.Worked.{holds, worked}
 
 pub worked-values-hold : T (every holds worked)
-unfolding choose both either every sameList firstFault untilCategory framed framedAll sequence copies put places placeOf hasItem setOf itemBits modulationOctet modesAt anyBad badRecord modulationGroup joined firstGroup frontPart groupOf menuRead inSet paired lowestFrom pcmChoice itemChoice chosenFrom
+unfolding choose both either every sameList firstFault untilCategory framed framedAll sequence copies put places placeOf hasItem setOf itemBits modulationOctet modesAt anyBad badRecord modulationGroup joined firstGroup frontPart groupOf menuRead inSet paired lowestFrom pcmChoice itemChoice chosenFrom rows inRange elapsed applies findRow timed steppedIn
 worked-values-hold = tt

@@ -16,6 +16,10 @@ use Rattle.records.specs.Record.{noModes}
 use Rattle.offers.specs.Making.{madeCm, madeJm}
 use Rattle.offers.specs.Choosing.{Chosen, none, item, pcm, choiceOf}
 use Rattle.offers.specs.Choosing as choosing
+use Rattle.steps.specs.declared.Session.{Session}
+use Rattle.steps.specs.Table.{quiet, menu, going, tick}
+use Rattle.steps.specs.Session.{caller}
+use Rattle.steps.specs.Stepping.{elapsed, stepped}
 
 -- a line of the table: what is asked, and what document 01 says comes of it
 pub data Case : Type 0 where
@@ -29,6 +33,10 @@ pub data Case : Type 0 where
   answers : Record → List ℕ → List ℕ → Case
   -- CM, JM, and the choice from them
   chooses : List ℕ → List ℕ → Chosen → Case
+  -- the entry time, a later time, and what is elapsed between them
+  lasts : ℕ → ℕ → ℕ → Case
+  -- a session, the time of a tick, and the state behind it
+  ticks : Session → ℕ → ℕ → Case
 
 abbrev sameSaid : Said → Said → Bool
 sameSaid (count m) (count n) = eqb m n
@@ -53,6 +61,8 @@ holds (stands kind octets line) = sameList (sequence kind octets) line
 holds (asks own function menu) = makes (madeCm own function (replicate (length menu) 0)) menu
 holds (answers own heard menu) = makes (madeJm own heard (replicate (length menu) 0)) menu
 holds (chooses cm jm chosen) = eqb (chosenNumber (choiceOf cm jm)) (chosenNumber chosen)
+holds (lasts entry now passed) = eqb (elapsed now entry) passed
+holds (ticks session now state) = eqb (stepped session tick 0 now .session .state) state
 holds (writes kind octets n room said) = sameSaid (written kind octets n (replicate room 0) .answer) said
 
 -- a set of items
@@ -89,6 +99,10 @@ cmWithPcm = 0xC1 ∷ 0x65 ∷ 0x10 ∷ 0x10 ∷ 0x27 ∷ 0x0D ∷ []
 abbrev jmWithPcm : List ℕ
 jmWithPcm = 0xC1 ∷ 0x65 ∷ 0x10 ∷ 0x10 ∷ 0x47 ∷ 0x8D ∷ []
 
+-- quiet, with Te 500
+abbrev pub quietFrom : ℕ → Session
+quietFrom entry = record { entry = entry; te = 500; end = caller; state = quiet; chosen = 0; ended = going }
+
 abbrev pub worked : List Case
 worked =
     -- "Record A, data: items 1, 3, 4, 12, LAPM.", "CM of A is C1 45 13 90 2A, 70 bits."
@@ -112,4 +126,9 @@ worked =
     -- "buffer of 69 bytes for one copy of A's CM: 6; 70 is enough."
     ∷ writes Menu cmOfA 1 69 (refusal 6)
     ∷ writes Menu cmOfA 1 70 (count 70)
+    -- "elapsed from 4,294,967,000 to 79 is 375; to 204 it is 500, and Quiet with Te 500 ends."
+    ∷ lasts 4294967000 79 375
+    ∷ ticks (quietFrom 4294967000) 79 quiet
+    ∷ lasts 4294967000 204 500
+    ∷ ticks (quietFrom 4294967000) 204 menu
     ∷ []

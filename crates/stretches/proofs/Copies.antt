@@ -16,7 +16,8 @@ use Rattle.octets.specs.declared.Purpose.the-variants.{Writing}
 use Rattle.octets.specs.Lists.{before, listFault}
 use Rattle.sequences.specs.Line.{framedAll, tenOnes, sync, sequence, copies, cj}
 use Rattle.sequences.proofs.Lines.{copies-more}
-use Rattle.sequences.specs.Writing.{bits, refusal, Outcome, roomFault, put, written}
+use Rattle.octets.specs.Lent.{count, refusal, Outcome, roomFault, put}
+use Rattle.sequences.specs.Writing.{written}
 use Rattle.listening.specs.declared.Listener.{Listener}
 use Rattle.listening.specs.Record.{empty, fresh}
 use Rattle.stretches.specs.Stretch.{octetsAll, Accepted, Nowhere}
@@ -87,20 +88,20 @@ module _ (kind : Kind) (octets : List ℕ) (accepted : Accepted kind octets) whe
 
 -- where the writer says how many bits it wrote, these stand at the front of its buffer
 abbrev laidDown : Bool → ℕ → List ℕ → List ℕ → Outcome
-laidDown fine f line out = choose fine (record { answer = bits (length line); buffer = front line out }) (record { answer = refusal f; buffer = out })
+laidDown fine f line out = choose fine (record { answer = count (length line); buffer = front line out }) (record { answer = refusal f; buffer = out })
 
-by-fault : (f : ℕ) (line out : List ℕ) (count : ℕ) (fine : Bool) → laidDown fine f line out .answer ≡ bits count → (fine ≡ true) × (take count (laidDown fine f line out .buffer) ≡ line)
+by-fault : (f : ℕ) (line out : List ℕ) (size : ℕ) (fine : Bool) → laidDown fine f line out .answer ≡ count size → (fine ≡ true) × (take size (laidDown fine f line out .buffer) ≡ line)
 unfolding choose
-by-fault f line out count true e = (refl, take-at line (drop (length line) out) count (cc))
-by-fault f line out count false e = let z : _≡_ {A = ℕ} 0 1 = cc in absurd (let w : ⊥ = omega arith in w)
+by-fault f line out size true e = (refl, take-at line (drop (length line) out) size (cc))
+by-fault f line out size false e = let z : _≡_ {A = ℕ} 0 1 = cc in absurd (let w : ⊥ = omega arith in w)
 
-pub buffered : (kind : Kind) (octets : List ℕ) (n : ℕ) (out : List ℕ) (count : ℕ) → octetsAll octets ≡ true → written kind octets n out .answer ≡ bits count
-    → reports fresh (take count (written kind octets n out .buffer) ++ tenOnes) ≡ replicate n (message kind octets)
+pub buffered : (kind : Kind) (octets : List ℕ) (n : ℕ) (out : List ℕ) (size : ℕ) → octetsAll octets ≡ true → written kind octets n out .answer ≡ count size
+    → reports fresh (take size (written kind octets n out .buffer) ++ tenOnes) ≡ replicate n (message kind octets)
 unfolding put
-buffered kind octets n out count small e =
+buffered kind octets n out size small e =
     let line = copies n (sequence kind octets) in
     let f = before (listFault (Writing kind) octets) (roomFault line out) in
-    let wrote = by-fault f line out count (eqb f 0) e in
+    let wrote = by-fault f line out size (eqb f 0) e in
     let fine = before-none (listFault (Writing kind) octets) (roomFault line out) (eqb (listFault (Writing kind) octets) 0) refl (eqb-true f 0 (wrote .0)) in
     ap (λ (l : List ℕ). reports fresh (l ++ tenOnes)) (wrote .1) ∙ copied kind octets (record { octet = small; taken = fine .0 }) n
 

@@ -6,7 +6,8 @@ use mathlib.Core.List.{List, _++_}
 use lib.ListN.{take, replicate}
 use Rattle.octets.specs.declared.Kind.{Kind}
 use Rattle.sequences.specs.Line.{tenOnes, sequence, copies}
-use Rattle.sequences.specs.Writing.{bits, written}
+use Rattle.octets.specs.Lent.{count}
+use Rattle.sequences.specs.Writing.{written}
 use Rattle.listening.specs.Record.{fresh}
 use Rattle.stretches.specs.Stretch.{octetsAll, Accepted, stretch, Long, Nowhere, flag}
 use Rattle.stretches.specs.Hearing.{message, reports, Reads}
@@ -27,5 +28,5 @@ pub record RoundTrip : Type 0 where
   -- copies, with ten 1s behind them: a fresh reader reports the message, once for each copy, and nothing else
   pub copied : (kind : Kind) (octets : List ℕ) (n : ℕ) → Accepted kind octets → reports fresh (copies n (sequence kind octets) ++ tenOnes) ≡ replicate n (message kind octets)
   -- and so it does on the bits that the writer says it wrote, in the buffer that it was lent
-  pub buffered : (kind : Kind) (octets : List ℕ) (n : ℕ) (out : List ℕ) (count : ℕ) → octetsAll octets ≡ true → written kind octets n out .answer ≡ bits count
-      → reports fresh (take count (written kind octets n out .buffer) ++ tenOnes) ≡ replicate n (message kind octets)
+  pub buffered : (kind : Kind) (octets : List ℕ) (n : ℕ) (out : List ℕ) (size : ℕ) → octetsAll octets ≡ true → written kind octets n out .answer ≡ count size
+      → reports fresh (take size (written kind octets n out .buffer) ++ tenOnes) ≡ replicate n (message kind octets)

@@ -2,3 +2,4 @@ pub mod Codes
 pub mod Hearing
 pub mod Reading
 pub mod Choosing
+pub mod Steps

@@ -11,6 +11,9 @@ use octets::Wrote;
 use offers::Choice;
 use offers::Source;
 use records::Record;
+use steps::Answer;
+use steps::Session;
+use steps::Started;
 ghost use mathlib.Core.Path.{_≡_};
 ghost use lib.IntN.{pos, negℤ};
 ghost use Rattle.listening.specs.Record.{fresh};
@@ -29,6 +32,10 @@ ghost use Rattle.tailsprig.specs.Reading.{lookedCode, SmallLooked, noOff
 ghost use Rattle.octets.specs.Lent.{says};
 ghost use Rattle.sequences.specs.Writing.{writtenCj};
 ghost use Rattle.tailsprig.specs.Hearing.{toldCode, lightOf, heavyOf, HearsAs, RunsAs};
+ghost use Rattle.steps.specs.Session.{callerFrom, answererFrom, defaultTe, startedCaller};
+ghost use Rattle.steps.specs.Stepping.{stepped};
+ghost use Rattle.steps.specs.Stepping as stepping;
+ghost use Rattle.tailsprig.specs.Steps.{noSession, StartsAs, stepCode, StepsAs, carriedOf};
 ghost use Rattle.tailsprig.specs.Codes.{code, Small, Returns, kindOf, writtenAs};
 
 fn refused(r: Refusal) -> i32
@@ -325,4 +332,107 @@ pub extern "C" fn tailsprig_choice(cm: &[u8], jm: &[u8]) -> i32
     ensures { λ r. ⌜ r ≡ choiceCode (choiceOf (now (cm .entry)) (now (jm .entry))) ⌝ }
 {
     choice_code(offers::choice_of(cm, jm))
+}
+
+// A start as C gets it: 0 and the session, or a refusal and none.
+#[repr(C)]
+pub struct CallerStart {
+    pub session: Session,
+    pub code: i32,
+}
+
+// A step as C gets it: the session, and the answer as one number.
+#[repr(C)]
+pub struct StepTaken {
+    pub session: Session,
+    pub code: i32,
+}
+
+fn no_session() -> Session
+    ensures { λ r. ⌜ r ≡ noSession ⌝ }
+{
+    Session {
+        entry: 0,
+        te: 0,
+        end: 0,
+        state: 0,
+        chosen: 0,
+        ended: 0,
+    }
+}
+
+// A caller's session from this time on, with a given Te.
+#[no_mangle]
+pub extern "C" fn tailsprig_start_caller(start: u32, te: u32) -> CallerStart
+    ensures { λ r. ⌜ StartsAs (startedCaller start te) r ⌝ }
+{
+    let started = steps::start_caller(start, te);
+    match started {
+        Started::Ready(session) => CallerStart {
+            session: session,
+            code: 0,
+        },
+        Started::Refused(r) => CallerStart {
+            session: no_session(),
+            code: refused(r),
+        },
+    }
+}
+
+// The same without a value for Te.
+#[no_mangle]
+pub extern "C" fn tailsprig_start_caller_default(start: u32) -> Session
+    ensures { λ r. ⌜ r ≡ callerFrom start defaultTe ⌝ }
+{
+    steps::start_caller_default(start)
+}
+
+// An answerer's session from this time on.
+#[no_mangle]
+pub extern "C" fn tailsprig_start_answerer(start: u32) -> Session
+    ensures { λ r. ⌜ r ≡ answererFrom start ⌝ }
+{
+    steps::start_answerer(start)
+}
+
+fn step_code(answer: Answer) -> i32
+    ensures { λ n. ⌜ n ≡ stepCode (stepping.says answer) ⌝ }
+{
+    match answer {
+        Answer::Same => 0,
+        Answer::Entered(state) => state as i32,
+        Answer::Ended(how) => (16 + how as u16) as i32,
+        Answer::GoOn(choice) => (32 + choice as u16) as i32,
+        Answer::Refused(r) => refused(r),
+    }
+}
+
+// What an event carries, from the answer of tailsprig_choice or an item: 255 for a number that no event may carry.
+fn carried(value: i32) -> u8
+    ensures { λ r. ⌜ r ≡ carriedOf value ⌝ }
+{
+    if value == -11 {
+        return steps::REFUSED_WITH_11;
+    }
+    if value < 0 {
+        return 255;
+    }
+    if value < 24 {
+        return value as u8;
+    }
+    255
+}
+
+// An event of this end, what it carries, and its time.
+#[no_mangle]
+pub extern "C" fn tailsprig_step(session: Session, event: u8, value: i32, now: u32) -> StepTaken
+    ensures { λ r. ⌜ StepsAs (stepped session event (carriedOf value) now) r ⌝ }
+{
+    let taken = steps::step(session, event, carried(value), now);
+    let next = taken.session;
+    let answer = taken.answer;
+    StepTaken {
+        session: next,
+        code: step_code(answer),
+    }
 }

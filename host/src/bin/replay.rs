@@ -2,13 +2,13 @@
 //! row's last column. Prints a line for each difference and a last line with the counts; exits with 1 on a difference and
 //! with 2 where a file cannot be read as vectors. A file's header line says what its rows are.
 use std::{env, fs, process::ExitCode};
-use tailsprig::{text, Choice, Listener, Refusal, Report, Source};
+use tailsprig::{steps::Session, text, Choice, Listener, Refusal, Report, Source};
 
 /// What a row's call gives, in the text of its last column.
 type Call = fn(&[&str]) -> Result<String, String>;
 
 /// The header of each kind of file, and the call for its rows.
-const FILES: [(&str, Call); 9] = [
+const FILES: [(&str, Call); 10] = [
     ("kind\toctets\tcopies\troom\tanswer", write),
     ("input\treports", listen),
     ("octets\ttag\tanswer", find),
@@ -18,6 +18,7 @@ const FILES: [(&str, Call); 9] = [
     ("record\theard\troom\tanswer", jm),
     ("record\theard\town\tanswer", call_function),
     ("cm\tjm\tanswer", choice),
+    ("end\tstart\tte\tevents\tanswers", steps),
 ];
 
 /// A byte that is no bit, at each place another: what the writer must not touch.
@@ -152,6 +153,31 @@ fn choice(row: &[&str]) -> Result<String, String> {
         Ok(Choice::Pcm(options)) => format!("pcm {options}"),
         Err(refusal) => text::show_refusal(refusal),
     })
+}
+
+fn steps(row: &[&str]) -> Result<String, String> {
+    let start = text::number(row[1])?;
+    let started = match (row[0], row[2]) {
+        ("caller", "-") => Session::caller(start, None),
+        ("caller", te) => Session::caller(start, Some(text::number(te)?)),
+        ("answerer", "-") => Ok(Session::answerer(start)),
+        _ => return Err(format!("'{}' with Te '{}' is no end", row[0], row[2])),
+    };
+    let mut session = match started {
+        Ok(session) => session,
+        Err(refusal) => return Ok(text::show_refusal(refusal)),
+    };
+    let mut answers = Vec::new();
+    for event in row[3].split(' ') {
+        let (event, now) = text::event(event)?;
+        let before = session;
+        answers.push(match session.step(event, now) {
+            Ok(answer) => text::show_answer(answer),
+            Err(refusal) if session == before => text::show_refusal(refusal),
+            Err(refusal) => format!("{} with a session that changed", text::show_refusal(refusal)),
+        });
+    }
+    Ok(answers.join(" "))
 }
 
 /// The rows of a file, how many differ, and whether every line could be read.

@@ -1,0 +1,31 @@
+-- Over many events: no event changes a session that is over, and none leads a session out of its ranges.
+-- Assumes nothing.
+use Prim.Native.Nat.{ℕ}
+use mathlib.Core.Path.{_≡_, refl, ap, _∙_}
+use mathlib.Core.Bool.{true}
+use mathlib.Core.List.{List, [], _∷_}
+use borrow.Author.Tests.{eq-eqb}
+use Rattle.laws.specs.Choice.{choose}
+use Rattle.steps.specs.declared.Session.{Session}
+use Rattle.steps.specs.Table.{over}
+use Rattle.steps.specs.Session.{inRange}
+use Rattle.steps.specs.Stepping.{Outcome, refuses, steppedIn, stepped}
+use Rattle.steps.specs.Runs.{Timed, next, run}
+use Rattle.steps.proofs.Ranges.{stepped-range}
+
+-- after over every event is refused with 7
+pub after-over : (s : Session) (event value now : ℕ) → inRange s ≡ true → s .state ≡ over → stepped s event value now ≡ refuses 7 s
+unfolding steppedIn choose
+after-over s event value now h o = simp (h, eq-eqb _ _ o)
+
+pub stays-over : (s : Session) (ts : List Timed) → inRange s ≡ true → s .state ≡ over → run s ts ≡ s
+unfolding run
+stays-over s [] h o = refl
+stays-over s (t ∷ ts) h o =
+    ap (λ (r : Outcome). run (r .session) ts) (after-over s (t .event) (t .value) (t .now) h o) ∙ stays-over s ts h o
+
+-- no events lead out of the ranges
+pub run-range : (s : Session) (ts : List Timed) → inRange s ≡ true → inRange (run s ts) ≡ true
+unfolding run
+run-range s [] h = h
+run-range s (t ∷ ts) h = run-range (next s t .session) ts (stepped-range s (t .event) (t .value) (t .now) h)

@@ -1,0 +1,49 @@
+-- No two answers say the same, and two results that meet what is laid down are equal.
+-- Assumes nothing.
+use mathlib.Core.Path.{_≡_, refl, sym, ap, _∙_}
+use Rattle.octets.proofs.Numbers.{named, named-number}
+use Rattle.steps.specs.declared.Session.{Session}
+use Rattle.steps.specs.declared.Answer.{Answer}
+use Rattle.steps.specs.declared.Answer.the-variants.{Same, Entered, Ended, GoOn, Refused}
+use Rattle.steps.specs.declared.Stepped.{Stepped}
+use Rattle.steps.specs.declared.Started.{Started}
+use Rattle.steps.specs.declared.Started.the-variants as starts
+use Rattle.steps.specs.Session.{Start, ready, saysStarted}
+use Rattle.steps.specs.Session as session
+use Rattle.steps.specs.Stepping.{Answered, same, entered, ended, goOn, refusal, says, Outcome, Steps}
+
+-- the answer that says this
+abbrev saying : Answered → Answer
+saying same = Same
+saying (entered state) = Entered state
+saying (ended how) = Ended how
+saying (goOn choice) = GoOn choice
+saying (refusal n) = Refused (named n)
+
+said : (a : Answer) → saying (says a) ≡ a
+said Same = refl
+said (Entered state) = refl
+said (Ended how) = refl
+said (GoOn choice) = refl
+said (Refused r) = ap Refused (named-number r)
+
+pub says-injective : (a b : Answer) → says a ≡ says b → a ≡ b
+says-injective a b e = sym (said a) ∙ ap saying e ∙ said b
+
+pub steps-unique : (laid : Outcome) (a b : Stepped) → Steps laid a → Steps laid b → a ≡ b
+steps-unique laid a b p q =
+    let answer = says-injective (a .answer) (b .answer) (p .answer ∙ sym (q .answer)) in
+    let session = p .session ∙ sym (q .session) in
+    ap (λ (s : Session). record { session = s; answer = a .answer }) session ∙ ap (λ (x : Answer). record { session = b .session; answer = x }) answer
+
+-- the same of a start
+abbrev starting : Start → Started
+starting (ready s) = starts.Ready s
+starting (session.refusal n) = starts.Refused (named n)
+
+started : (a : Started) → starting (saysStarted a) ≡ a
+started (starts.Ready s) = refl
+started (starts.Refused r) = ap starts.Refused (named-number r)
+
+pub says-started-injective : (a b : Started) → saysStarted a ≡ saysStarted b → a ≡ b
+says-started-injective a b e = sym (started a) ∙ ap starting e ∙ started b

@@ -1,0 +1,15 @@
+use Rattle.laws.specs.Choice.{both}
+use borrow.Author.Tests.{le-leb, lt-leb}
+use Rattle.steps.proofs.is_te.Statement.{statement}
+use Rattle.steps.proofs.is_te.Tie as tie
+
+returns : tie.Need-returns
+unfolding both
+returns c = simp (le-leb _ _ (c .if1 .taken))
+
+returns-2 : tie.Need-returns-2
+unfolding both
+returns-2 c = simp (lt-leb _ _ (c .if1 .left))
+
+pub is-te-spec : {M : Type 1} → statement M
+is-te-spec = tie.close (tie.spec returns returns-2)

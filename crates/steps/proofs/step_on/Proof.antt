@@ -1,0 +1,39 @@
+use mathlib.Core.Path.{refl}
+use borrow.Author.Needs.{needs}
+use Rattle.steps.proofs.step_on.Statement.{statement}
+use Rattle.steps.proofs.step_on.Tie as tie
+
+find-row-requires : tie.Need-find-row-requires
+find-row-requires c κs = search needs
+
+enum-known-found : tie.Need-enum-known-found
+enum-known-found c = search needs
+
+enum-told : tie.Need-enum-told
+enum-told c = search needs
+
+returns : tie.Need-returns
+returns c = simp (← c .before .before .find-row .ensures, c .enum-told .given .1) (record { answer = refl; session = refl })
+
+renew-requires : tie.Need-renew-requires
+renew-requires c κs = search needs
+
+take-requires : tie.Need-take-requires
+take-requires c κs = search needs
+
+returns-2 : tie.Need-returns-2
+returns-2 c =
+    let t = rw (c .before .renew .ensures) at (c .take .ensures) in
+    simp (← c .before .before .before .before .before .find-row .ensures, c .before .before .before .found .given .1) t
+
+pub step-on-spec : {M : Type 1} → statement M
+step-on-spec =
+    tie.close
+    (tie.spec
+    find-row-requires
+    enum-known-found
+    enum-told
+    returns
+    renew-requires
+    take-requires
+    returns-2)

@@ -1,0 +1,27 @@
+use borrow.Author.Tests.{lt-ltb, le-ltb}
+use Rattle.laws.specs.Choice.{choose}
+use Rattle.steps.specs.Stepping.{timed}
+use borrow.Author.Needs.{needs}
+use Rattle.steps.proofs.step_timed.Statement.{statement}
+use Rattle.steps.proofs.step_timed.Tie as tie
+
+since-requires : tie.Need-since-requires
+since-requires c κs = search needs
+
+step-on-requires : tie.Need-step-on-requires
+step-on-requires c κs = search needs
+
+returns : tie.Need-returns
+unfolding timed choose
+returns c = simp (← c .before .before .since .ensures, lt-ltb _ _ (c .before .if1 .taken)) (c .step-on .ensures)
+
+refuse-requires : tie.Need-refuse-requires
+refuse-requires c κs = search needs
+
+returns-2 : tie.Need-returns-2
+unfolding timed choose
+returns-2 c = simp (← c .before .before .since .ensures, le-ltb _ _ (c .before .if1 .left)) (c .refuse .ensures)
+
+pub step-timed-spec : {M : Type 1} → statement M
+step-timed-spec =
+    tie.close (tie.spec since-requires step-on-requires returns refuse-requires returns-2)

@@ -1,0 +1,15 @@
+use borrow.Author.Needs.{needs}
+use Rattle.steps.proofs.take.Statement.{statement}
+use Rattle.steps.proofs.take.Tie as tie
+
+ending-of-requires : tie.Need-ending-of-requires
+ending-of-requires c κs = search needs
+
+enter-requires : tie.Need-enter-requires
+enter-requires c κs = search needs
+
+returns : tie.Need-returns
+returns c = rw (c .before .ending-of .ensures) at (c .enter .ensures)
+
+pub take-spec : {M : Type 1} → statement M
+take-spec = tie.close (tie.spec ending-of-requires enter-requires returns)

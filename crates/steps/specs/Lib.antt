@@ -1,0 +1,4 @@
+pub mod Table
+pub mod Session
+pub mod Stepping
+pub mod Runs

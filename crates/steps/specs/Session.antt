@@ -1,0 +1,93 @@
+-- docs/RANGES.md: what a session may hold; and how it starts.
+use Prim.Native.Nat.{ℕ}
+use mathlib.Core.Bool.{Bool, true, not}
+use lib.Dec.{ltb, leb, eqb}
+use Rattle.laws.specs.Choice.{choose, both, either}
+use Rattle.octets.specs.Refusals.{number}
+use Rattle.steps.specs.declared.Session.{Session}
+use Rattle.steps.specs.declared.Started.{Started}
+use Rattle.steps.specs.declared.Started.the-variants.{Ready, Refused}
+use Rattle.steps.specs.Table.{callerStill, closing, pause, answererStill, answering, joint, over, going, left, notOffered, goesOn}
+
+-- from low to high, both counted
+abbrev pub between : ℕ → ℕ → ℕ → Bool
+between low high n = both (leb low n) (leb n high)
+
+-- "item not 1 to 12" is refused
+abbrev pub isItem : ℕ → Bool
+isItem value = between 1 12 value
+
+-- "PCM options not 1 to 7" are refused: a choice holds them above 16, since no item is as high
+abbrev pub isPcm : ℕ → Bool
+isPcm value = between 17 23 value
+
+-- what a session can go on with
+abbrev pub isMode : ℕ → Bool
+isMode value = either (isItem value) (isPcm value)
+
+-- "none, an item, or PCM options"; 0 is none
+abbrev pub isChoice : ℕ → Bool
+isChoice value = either (eqb value 0) (isMode value)
+
+-- "Te is 500 to 5,000"
+abbrev pub isTe : ℕ → Bool
+isTe te = between 500 5000 te
+
+-- ".. given at the start; without a value it is 500."
+abbrev pub defaultTe : ℕ
+defaultTe = 500
+
+-- the two ends
+abbrev pub caller : ℕ
+caller = 1
+
+abbrev pub answerer : ℕ
+answerer = 2
+
+-- Te is the caller's alone
+abbrev pub endFits : ℕ → ℕ → Bool
+endFits end te = choose (eqb end caller) (isTe te) (both (eqb end answerer) (eqb te 0))
+
+-- a state of this end; pause and over are both ends'
+abbrev pub stateFits : ℕ → ℕ → Bool
+stateFits end state = either (eqb state over) (choose (eqb end caller) (between callerStill pause state) (between pause joint state))
+
+-- the states before a menu is agreed: caller still to menu, answerer still and answering
+abbrev pub early : ℕ → Bool
+early state = either (ltb state closing) (between answererStill answering state)
+
+-- nothing is chosen before a menu is agreed
+abbrev pub choiceFits : ℕ → Bool → Bool
+choiceFits state none = choose (early state) none true
+
+-- how it ended, once it is over; it goes on with a choice only
+abbrev pub endedFits : ℕ → Bool → ℕ → Bool
+endedFits state none ended = choose (eqb state over) (choose (eqb ended goesOn) (not none) (between left notOffered ended)) (eqb ended going)
+
+-- "session with a field outside its range" is refused with 10
+unfoldable pub inRange : Session → Bool
+inRange s =
+    both (endFits (s .end) (s .te))
+    (both (stateFits (s .end) (s .state))
+    (both (isChoice (s .chosen))
+    (both (choiceFits (s .state) (eqb (s .chosen) 0)) (endedFits (s .state) (eqb (s .chosen) 0) (s .ended)))))
+
+-- "The time of the start .. is the entry time."
+abbrev pub callerFrom : ℕ → ℕ → Session
+callerFrom now te = record { entry = now; te = te; end = caller; state = callerStill; chosen = 0; ended = going }
+
+abbrev pub answererFrom : ℕ → Session
+answererFrom now = record { entry = now; te = 0; end = answerer; state = answererStill; chosen = 0; ended = going }
+
+-- what a start gives: a session, or a refusal's number
+pub data Start : Type 0 where
+  ready : Session → Start
+  refusal : ℕ → Start
+
+abbrev pub saysStarted : Started → Start
+saysStarted (Ready s) = ready s
+saysStarted (Refused r) = refusal (number r)
+
+-- "Te out of range" is refused with 10
+abbrev pub startedCaller : ℕ → ℕ → Start
+startedCaller now te = choose (isTe te) (ready (callerFrom now te)) (refusal 10)
