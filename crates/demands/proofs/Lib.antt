@@ -3,3 +3,4 @@ pub mod Shared
 pub mod Joint
 pub mod Settled
 pub mod Incident
+pub mod WholeCall

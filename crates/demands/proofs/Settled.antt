@@ -3,7 +3,7 @@
 use Prim.Native.Nat.{ℕ, zero, suc, _<_, _≤_, _+_, _*_, _/_, _%_}
 use native.Mathlib.Nat.{eq-or-lt-of-le}
 use native.Mathlib.Omega.{arith}
-use mathlib.Core.Path.{_≡_, refl, sym, ap, ap₂, _∙_}
+use mathlib.Core.Path.{_≡_, refl, sym, ap, ap₂, subst, _∙_}
 use mathlib.Core.Bool.{Bool, true, false}
 use mathlib.Core.List.{List}
 use mathlib.Core.Logic.{⊎-elim}
@@ -26,6 +26,7 @@ use Rattle.records.specs.Record.{flag, noModes, inUse}
 use Rattle.records.proofs.Good.{good-modes, none-used}
 use Rattle.offers.specs.Making.{cmOffer, paired, withItem1, sharedItems, jmPcm, jmOffer}
 use Rattle.offers.specs.Choosing.{Chosen, none, item, pcm, refusal, lowest, lowestFrom, pcmChoice, itemChoice, chosenFrom, onRead, choiceFor, choiceOf}
+use Rattle.offers.proofs.Making.{jm-says}
 use Rattle.demands.specs.Joint.{Accepted, cmOf, jmOf, hasFor, pcmFor, Call, NothingShared, callerNames, answererNames, Settled}
 use Rattle.demands.proofs.Shared.{lowest-in}
 use Rattle.demands.proofs.Joint.{cm-back, cm-round-trip, jm-round-trip, beside-item-0, has-used}
@@ -82,7 +83,7 @@ none-lowest items i zero h = refl
 none-lowest items i (suc n) h = simp (h i (omega arith) (omega arith)) (none-lowest items (i + 1) n (λ k a b. h k (omega (arith, a)) (omega (arith, b))))
 
 -- what kind of choice it is
-abbrev kindOf : Chosen → ℕ
+abbrev pub kindOf : Chosen → ℕ
 kindOf none = 0
 kindOf (item i) = 1
 kindOf (pcm options) = 2
@@ -225,6 +226,14 @@ module _ (caller answerer : Record) (function : ℕ) (call : Call caller answere
       ∙ ap (λ (r : Read). onRead r (λ offer. chosenFrom cm offer)) answered
       ∙ ap (λ (o : Offer). chosenFrom cm (jmOffer answerer o)) (cm-back caller (call .calling) function (call .available))
       ∙ settles
+
+  -- the choice is none, an item from 1 to 12, or PCM options from 1 to 7
+  pub choice-case : (P : Chosen → Type 0) → P none → ((i : ℕ) → 0 < i → i < 13 → P (item i)) → ((options : ℕ) → 0 < options → options < 8 → P (pcm options)) → P (choiceOf (cmOf caller function) (jmOf answerer (cmOf caller function)))
+  choice-case P no-mode an-item some-options =
+      subst P (sym named)
+      (chosen P (ltb 0 (jm .pcm)) _ _ (λ t. some-options (jm .pcm) (ltb-true 0 (jm .pcm) t) (jm-says answerer (call .answering .good) cm .pcm))
+      (λ _. chosen P (eqb (lowest (jm .items)) 0) _ _ (λ _. no-mode)
+      (λ t. let above : 0 < lowest (jm .items) = omega (arith, eqb-false (lowest (jm .items)) 0 t) in an-item (lowest (jm .items)) above (lowest-in (jm .items) 1 12 above .1))))
 
   pub settled : (heardCm heardJm : List ℕ) → heardCm ≡ cmOf caller function → heardJm ≡ jmOf answerer heardCm → Settled caller answerer function heardCm heardJm
   settled heardCm heardJm asSent asAnswered =

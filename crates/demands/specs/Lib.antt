@@ -2,3 +2,4 @@ pub mod Worked
 pub mod Shared
 pub mod Joint
 pub mod Incident
+pub mod WholeCall

@@ -1,0 +1,71 @@
+-- The whole call: over a line that delivers menus as sent, with the events in the order that V.8 gives them, both ends go on with the same
+-- choice or both clear, and they clear exactly when nothing is shared.
+use Prim.Native.Nat.{ℕ, _+_}
+use mathlib.Core.Path.{_≡_}
+use mathlib.Core.Bool.{Bool, true}
+use mathlib.Core.List.{List, [], _∷_, _++_}
+use lib.Dec.{leb, ltb, eqb}
+use Rattle.laws.specs.Choice.{choose, both}
+use Rattle.records.specs.declared.Record.{Record}
+use Rattle.offers.specs.Choosing.{Chosen, none, item, pcm, refusal}
+use Rattle.steps.specs.declared.Session.{Session}
+use Rattle.steps.specs.Table.{over, cleared, goesOn, ansam, agreedJm, cjSent, agreedCm, cj, tick}
+use Rattle.steps.specs.Session.{isTe, isMode, callerFrom, answererFrom}
+use Rattle.steps.specs.Stepping.{same, elapsed, refusedWith11}
+use Rattle.steps.specs.Runs.{Timed, next, run}
+use Rattle.demands.specs.Joint.{NothingShared, callerNames, answererNames}
+
+-- the number with which an agreed menu carries a choice
+abbrev pub carried : Chosen → ℕ
+carried none = 0
+carried (item i) = i
+carried (pcm options) = 16 + options
+carried (refusal n) = refusedWith11
+
+-- an event that the order waits for, what it carries, and the milliseconds in its state before which it does not count
+pub record Due : Type 0 where
+  pub event : ℕ
+  pub value : ℕ
+  pub least : ℕ
+
+abbrev due : ℕ → ℕ → ℕ → Due
+due event value least = record { event = event; value = value; least = least }
+
+-- not sooner than that, and within half the clock
+abbrev pub inTime : Session → Due → ℕ → Bool
+inTime s d now = both (leb (d .least) (elapsed now (s .entry))) (ltb (elapsed now (s .entry)) 2147483648)
+
+-- events in their order: between those that the order waits for, only such as change nothing and are answered "same" (ticks that come
+-- early, a tone heard again); once all have come, whatever comes
+pub data InOrder : Session → List Due → List Timed → Type 0 where
+  all : {s : Session} {ts : List Timed} → InOrder s [] ts
+  waiting : {s : Session} {ds : List Due} {t : Timed} {ts : List Timed} → next s t .answer ≡ same → InOrder s ds ts → InOrder s ds (t ∷ ts)
+  comes : {s : Session} {d : Due} {ds : List Due} {t : Timed} {ts : List Timed} → t .event ≡ d .event → t .value ≡ d .value → inTime s d (t .now) ≡ true
+      → InOrder (next s t .session) ds ts → InOrder s (d ∷ ds) (t ∷ ts)
+
+-- a session that is cleared is over at CJ; one with a choice pauses and goes on
+abbrev pub lastTick : ℕ → List Due
+lastTick choice = choose (eqb choice 0) [] (due tick 0 75 ∷ [])
+
+-- the caller waits, hears ANSam, is quiet for Te, sends CM until JM is agreed, sends CJ
+abbrev pub callerOrder : ℕ → ℕ → List Due
+callerOrder te choice = due tick 0 1000 ∷ due ansam 0 0 ∷ due tick 0 te ∷ due agreedJm choice 0 ∷ due cjSent 0 0 ∷ lastTick choice
+
+-- the answerer waits, sends ANSam until CM is agreed, sends JM until CJ is heard
+abbrev pub answererOrder : ℕ → List Due
+answererOrder choice = due tick 0 200 ∷ due agreedCm choice 0 ∷ due cj 0 0 ∷ lastTick choice
+
+-- a session that is over with this choice, or cleared where it is none
+pub record EndsWith (choice : ℕ) (s : Session) : Type 0 where
+  pub state : s .state ≡ over
+  pub chosen : s .chosen ≡ choice
+  pub ended : s .ended ≡ choose (eqb choice 0) cleared goesOn
+
+-- both ends, each with its start, its events and the menu that it heard
+pub record Ends (caller answerer : Record) (function : ℕ) (heardCm heardJm : List ℕ) (callerStart te answererStart : ℕ) (callerEvents answererEvents : List Timed) : Type 0 where
+  pub choice : ℕ
+  pub calling : EndsWith choice (run (callerFrom callerStart te) callerEvents)
+  pub answering : EndsWith choice (run (answererFrom answererStart) answererEvents)
+  pub mode : (NothingShared caller answerer function → ⊥) → isMode choice ≡ true
+  pub clears : choice ≡ 0 → NothingShared caller answerer function
+  pub cleared : NothingShared caller answerer function → choice ≡ 0
