@@ -4,3 +4,4 @@ pub mod Joint
 pub mod Settled
 pub mod Incident
 pub mod WholeCall
+pub mod Firm

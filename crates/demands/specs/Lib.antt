@@ -3,3 +3,4 @@ pub mod Shared
 pub mod Joint
 pub mod Incident
 pub mod WholeCall
+pub mod Firm

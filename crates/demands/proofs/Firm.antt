@@ -1,0 +1,69 @@
+-- None of the wrong programs that document 01 names meets the definitions: each fails on an input that is computed.
+-- Assumes nothing.
+use Prim.Native.Nat.{ℕ, suc}
+use native.Mathlib.Omega.{arith}
+use mathlib.Core.Path.{_≡_, refl, sym, ap, _∙_}
+use mathlib.Core.Bool.{Bool, true, false}
+use mathlib.Core.List.{List, [], _∷_, _++_}
+use lib.ListN.{length, replicate}
+use Rattle.laws.specs.Choice.{choose, both, either}
+use Rattle.laws.specs.Tests.{sameList}
+use Rattle.laws.proofs.Chosen.{clash}
+use Rattle.octets.specs.declared.Kind.{Kind}
+use Rattle.octets.specs.declared.Kind.the-variants.{Ci, Menu}
+use Rattle.octets.specs.Lists.{firstFault, untilCategory}
+use Rattle.octets.specs.Lent.{Said, count, refusal, put}
+use Rattle.sequences.specs.Line.{framed, framedAll, tenOnes, sequence, copies}
+use Rattle.listening.specs.declared.Listener.{Listener}
+use Rattle.listening.specs.Framing.{more, isCj, hunted, synced, bounded, stopped, ended, turned, stepped}
+use Rattle.listening.specs.Hearing.{Told, changed, agreed, reported, told, acted, heardIn}
+use Rattle.listening.specs.Record.{fresh}
+use Rattle.stretches.specs.Hearing.{Report, message, cj, reports}
+use Rattle.stretches.specs.Hearing as stretched
+use Rattle.menus.specs.Items.{places, placeOf, hasItem, setOf, inSet}
+use Rattle.menus.specs.Groups.{firstGroup, frontPart, groupOf}
+use Rattle.menus.specs.Offer.{Read, offers, menuRead}
+use Rattle.menus.specs.Offer as menus
+use Rattle.offers.specs.Making.{paired}
+use Rattle.offers.specs.Choosing.{Chosen, none, item, lowestFrom, pcmChoice, itemChoice, chosenFrom, choiceOf}
+use Rattle.demands.proofs.Settled.{kindOf}
+use Rattle.demands.specs.Worked.{cmOfA}
+use Rattle.demands.specs.Firm.{refused, unwritten, Firm}
+
+-- a fresh record hears a bit in silence and refuses a byte that is none
+abbrev heardCount : Listener → ℕ
+heardCount rec = rec .ear .heard
+
+abbrev sayCount : Said → ℕ
+sayCount (count n) = n
+sayCount (refusal n) = 0
+
+abbrev reportLength : Report → ℕ
+reportLength (message kind octets) = length octets
+reportLength cj = 0
+reportLength (stretched.refusal n) = 0
+
+abbrev readable : Read → ℕ
+readable (offers o) = 1
+readable (menus.refusal n) = 0
+
+-- a CI and then a menu
+abbrev two : List ℕ
+two = sequence Ci (0xC1 ∷ []) ++ (sequence Menu (0xC1 ∷ 0x05 ∷ []) ++ tenOnes)
+
+both-reported : reports fresh two ≡ message Ci (0xC1 ∷ []) ∷ message Menu (0xC1 ∷ 0x05 ∷ []) ∷ []
+unfolding choose both either sameList framed framedAll sequence more isCj hunted synced bounded stopped ended turned stepped changed agreed reported told acted heardIn reports firstFault
+both-reported = refl
+
+pub firm : Firm
+unfolding choose both either sameList firstFault untilCategory framed framedAll sequence copies put more isCj hunted turned stepped changed told acted heardIn menuRead places placeOf hasItem setOf inSet firstGroup frontPart groupOf paired lowestFrom pcmChoice itemChoice chosenFrom
+firm = record {
+  reader = λ h. clash (sym (h fresh 1));
+  writer = λ h. clash (sym (h Ci (0xC1 ∷ []) 1 (replicate 30 0)));
+  message = λ told h. clash (ap refused (h fresh 2 ∙ sym (h fresh 1)));
+  offer = λ read h. let z : _≡_ {A = ℕ} 1 0 = ap readable (h (0xC1 ∷ []) ∙ sym (h [])) in absurd (let w : ⊥ = omega arith in w);
+  choice = λ chosen h. let z : _≡_ {A = ℕ} 1 0 = ap kindOf (h cmOfA (0xC1 ∷ 0x05 ∷ 0x13 ∷ 0x10 ∷ []) ∙ sym (h cmOfA (0xC1 ∷ []))) in absurd (let w : ⊥ = omega arith in w);
+  changes = λ h. let z : _≡_ {A = ℕ} 1 0 = ap heardCount (h fresh 1) in absurd (let w : ⊥ = omega arith in w);
+  later = λ h. let z : _≡_ {A = ℕ} 1 2 = ap reportLength (h two (message Ci (0xC1 ∷ [])) (message Menu (0xC1 ∷ 0x05 ∷ [])) [] both-reported) in absurd (let w : ⊥ = omega arith in w);
+  counts = λ size h. let z : _≡_ {A = ℕ} 30 0 = ap sayCount (h Ci (0xC1 ∷ []) 1 (replicate 30 0) ∙ sym (h Ci (0xC1 ∷ []) 0 [])) in absurd (let w : ⊥ = omega arith in w);
+}

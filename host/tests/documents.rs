@@ -1,0 +1,184 @@
+//! The documents say what is there: every public function is listed with its promise, and every name in a table of
+//! `docs/PROMISES.md` stands for something in the repository.
+use std::collections::{BTreeMap, BTreeSet};
+use std::fs;
+use std::path::{Path, PathBuf};
+
+/// Programs, which no other code calls: their functions promise nothing to a host.
+const PROGRAMS: [&str; 1] = ["listing"];
+
+fn root() -> PathBuf {
+    Path::new(env!("CARGO_MANIFEST_DIR")).join("..")
+}
+
+fn read(path: &Path) -> String {
+    fs::read_to_string(path).unwrap_or_else(|error| panic!("{}: {error}", path.display()))
+}
+
+/// Every file below a folder.
+fn files(folder: &Path) -> Vec<PathBuf> {
+    let mut found = Vec::new();
+    let Ok(entries) = fs::read_dir(folder) else { return found };
+    for entry in entries {
+        let path = entry.expect("a folder can be listed").path();
+        if path.is_dir() {
+            found.extend(files(&path));
+        } else {
+            found.push(path);
+        }
+    }
+    found.sort();
+    found
+}
+
+/// The crates of `crates.txt` that are in this repository.
+fn crates() -> Vec<String> {
+    read(&root().join("crates.txt"))
+        .lines()
+        .filter(|line| !line.starts_with('#'))
+        .filter_map(|line| Some(line.split_once(':')?.0.to_string()))
+        .collect()
+}
+
+/// A public function as its source says it.
+struct Function {
+    requires: bool,
+    ensures: String,
+    changes: Vec<String>,
+}
+
+/// The public functions of a source, by name.
+fn public_functions(source: &str) -> BTreeMap<String, Function> {
+    let mut found = BTreeMap::new();
+    let lines: Vec<&str> = source.lines().collect();
+    for (at, line) in lines.iter().enumerate() {
+        let Some(rest) = line.strip_prefix("pub fn ").or_else(|| line.strip_prefix("pub extern \"C\" fn ")) else {
+            continue;
+        };
+        let name: String = rest.chars().take_while(|c| c.is_alphanumeric() || *c == '_').collect();
+        let head: Vec<&str> = lines[at..].iter().copied().take_while(|line| *line != "{").collect();
+        let clause = |word: &str| head.iter().find(|line| line.trim_start().starts_with(word)).map(|line| line.trim());
+        let signature: String = head.iter().take_while(|line| !line.trim_start().starts_with("ensures")).copied().collect();
+        let changes = signature
+            .split(['(', ','])
+            .filter(|parameter| parameter.contains("&mut "))
+            .filter_map(|parameter| Some(parameter.split_once(':')?.0.trim().to_string()))
+            .collect();
+        found.insert(
+            name,
+            Function {
+                requires: clause("requires").is_some(),
+                ensures: clause("ensures").unwrap_or("").to_string(),
+                changes,
+            },
+        );
+    }
+    found
+}
+
+/// What definitions, laws, functions, types and constants are called in the crates, and what wrong programs and tests are.
+fn names() -> BTreeSet<String> {
+    let mut names = BTreeSet::new();
+    let is_name = |c: char| !c.is_whitespace() && !"(){};,:".contains(c);
+    for krate in crates() {
+        let folder = root().join("crates").join(&krate);
+        names.insert(krate.clone());
+        for path in files(&folder) {
+            let stem = path.file_stem().unwrap_or_default().to_string_lossy().to_string();
+            match path.extension().and_then(|e| e.to_str()) {
+                Some("antt") => {
+                    names.insert(path.file_name().unwrap_or_default().to_string_lossy().to_string());
+                    for line in read(&path).lines() {
+                        let line = line.trim_start();
+                        let line = line.strip_prefix("abbrev ").or_else(|| line.strip_prefix("unfoldable ")).unwrap_or(line);
+                        let line = line.strip_prefix("pub ").unwrap_or(line);
+                        let line = line.strip_prefix("record ").or_else(|| line.strip_prefix("data ")).unwrap_or(line);
+                        let name: String = line.chars().take_while(|c| is_name(*c)).collect();
+                        if line[name.len()..].trim_start().starts_with([':', '(']) {
+                            names.insert(name);
+                        }
+                    }
+                }
+                Some("edit") => {
+                    names.insert(stem);
+                }
+                Some("rt") => names.extend(declared(&read(&path))),
+                _ => {
+                    names.insert(stem);
+                }
+            }
+        }
+    }
+    for path in files(&root().join("host/tests")).iter().chain(&files(&root().join("host/src"))) {
+        names.insert(path.file_stem().unwrap_or_default().to_string_lossy().to_string());
+        names.extend(declared(&read(path)));
+    }
+    names
+}
+
+/// What a source in Rattle or Rust declares.
+fn declared(source: &str) -> Vec<String> {
+    source
+        .lines()
+        .flat_map(|line| ["fn ", "struct ", "enum ", "const "].into_iter().filter_map(move |word| Some(line.split_once(word)?.1)))
+        .map(|rest| rest.chars().take_while(|c| c.is_alphanumeric() || *c == '_').collect())
+        .collect()
+}
+
+/// `docs/public-functions.tsv`: function, promise, what makes its results equal, the lent memory that it may change.
+#[test]
+fn every_public_function_is_listed_with_its_promise() {
+    let text = read(&root().join("docs/public-functions.tsv"));
+    let mut lines = text.lines();
+    assert_eq!(lines.next(), Some("function\tpromise\tequal by\tmay change"));
+    let names = names();
+    let mut listed = BTreeSet::new();
+    let mut sources = BTreeMap::new();
+    for krate in crates().iter().filter(|krate| !PROGRAMS.contains(&krate.as_str())) {
+        let source = read(&root().join("crates").join(krate).join("src/lib.rt"));
+        for (name, function) in public_functions(&source) {
+            sources.insert(format!("{krate}::{name}"), function);
+        }
+    }
+    for line in lines {
+        let fields: Vec<&str> = line.split('\t').collect();
+        let [name, promise, equal_by, may_change] = fields[..] else { panic!("four fields in '{line}'") };
+        assert!(listed.insert(name.to_string()), "{name} is listed twice");
+        let function = sources.get(name).unwrap_or_else(|| panic!("no public function is called {name}"));
+        assert!(!function.requires, "{name} has a `requires`");
+        for word in promise.split(' ') {
+            let word_stands = function.ensures.split(|c: char| c.is_whitespace() || "()«»".contains(c)).any(|w| w == word);
+            assert!(word_stands, "the promise of {name} does not name {word}: {}", function.ensures);
+        }
+        if equal_by != "an equation" {
+            assert!(names.contains(equal_by), "{name}: there is no law {equal_by}");
+        }
+        let changes = if function.changes.is_empty() { "nothing".to_string() } else { function.changes.join(" ") };
+        assert_eq!(may_change, changes, "what {name} may change");
+    }
+    for (name, function) in &sources {
+        assert!(!function.ensures.is_empty(), "{name} promises nothing");
+        assert!(listed.contains(name), "{name} is not listed");
+    }
+}
+
+/// A name that is given in a table, in back quotes.
+fn quoted(line: &str) -> impl Iterator<Item = &str> {
+    line.split('`').skip(1).step_by(2)
+}
+
+#[test]
+fn every_name_in_a_table_of_promises_stands_for_something() {
+    let names = names();
+    let missing: Vec<String> = read(&root().join("docs/PROMISES.md"))
+        .lines()
+        .filter(|line| line.starts_with('|'))
+        .flat_map(|line| quoted(line).map(str::to_string).collect::<Vec<_>>())
+        .filter(|name| {
+            let last = name.rsplit("::").next().unwrap_or(name).trim_start_matches('.');
+            let path = root().join(name).exists() || root().join("tests/vectors").join(name).exists();
+            !(path || names.contains(last))
+        })
+        .collect();
+    assert!(missing.is_empty(), "nothing is called {missing:?}");
+}
