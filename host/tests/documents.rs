@@ -182,3 +182,63 @@ fn every_name_in_a_table_of_promises_stands_for_something() {
         .collect();
     assert!(missing.is_empty(), "nothing is called {missing:?}");
 }
+
+/// The words of a text, without what sets them off.
+fn words(text: &str) -> String {
+    let plain: String = text
+        .to_lowercase()
+        .chars()
+        .filter(|c| !"`\"'*".contains(*c))
+        .map(|c| if c.is_ascii_alphanumeric() || "=^+".contains(c) { c } else { ' ' })
+        .collect();
+    plain.split_whitespace().collect::<Vec<_>>().join(" ")
+}
+
+/// The sentences of a document: parts of its lines that end with a mark before a new beginning, and the rows of its tables.
+fn sentences(document: &str) -> Vec<String> {
+    let mut found = Vec::new();
+    let mut code = false;
+    for line in document.lines() {
+        if line.starts_with("```") {
+            code = !code;
+        } else if code || line.starts_with('#') || line.chars().all(|c| "|-".contains(c)) {
+            continue;
+        } else if line.starts_with('|') {
+            found.push(line.to_string());
+        } else {
+            let mut rest = line.trim_start_matches("- ");
+            while let Some(end) = rest.char_indices().zip(rest.chars().skip(1).zip(rest.chars().skip(2))).find_map(
+                |((at, mark), (space, next))| {
+                    let begins = next.is_ascii_uppercase() || next.is_ascii_digit() || next == '"';
+                    (".:;".contains(mark) && space == ' ' && begins).then_some(at + 1)
+                },
+            ) {
+                found.push(rest[..end].to_string());
+                rest = &rest[end + 1..];
+            }
+            found.push(rest.to_string());
+        }
+    }
+    found
+}
+
+#[test]
+fn every_sentence_of_document_01_has_its_row() {
+    /// A row is known by how its sentence begins.
+    const BEGINNING: usize = 5;
+    let rows: Vec<String> = read(&root().join("docs/PROMISES.md"))
+        .lines()
+        .filter_map(|line| Some(words(line.strip_prefix('|')?.split('|').next()?)))
+        .collect();
+    let sentences = sentences(&read(&root().join("docs/document-01.md")));
+    assert!(sentences.len() > 150, "{} sentences were found", sentences.len());
+    let missing: Vec<&String> = sentences
+        .iter()
+        .filter(|sentence| {
+            let words = words(sentence);
+            let beginning = words.split(' ').take(BEGINNING).collect::<Vec<_>>().join(" ");
+            !rows.iter().any(|row| row.contains(&beginning))
+        })
+        .collect();
+    assert!(missing.is_empty(), "no row for {missing:#?}");
+}
