@@ -3,7 +3,7 @@ use Prim.Native.Nat.{ℕ, _+_}
 use lib.IntN.{ℤ, pos, negℤ}
 use Rattle.offers.specs.declared.Source.{Source}
 use Rattle.offers.specs.declared.Source.the-variants.{Neither, Heard, Own}
-use Rattle.offers.specs.Choosing.{Chosen, none, item, pcm, refusal}
+use Rattle.choices.specs.Choosing.{Chosen, none, item, pcm, refusal}
 
 -- 0 for none, an item as itself, PCM options above 16 since no item is as high, or a refusal n as -n
 abbrev pub choiceCode : Chosen → ℤ

@@ -1,4 +1,5 @@
 // The library as a C program sees it: numbers, byte slices, and a refusal n as the answer -n. include/tailsprig.h is its manual.
+use choices::Choice;
 use listening::Ear;
 use listening::Heard;
 use listening::Listener;
@@ -8,7 +9,6 @@ use menus::Offer;
 use octets::Kind;
 use octets::Refusal;
 use octets::Wrote;
-use offers::Choice;
 use offers::Source;
 use records::Record;
 use steps::Answer;
@@ -25,7 +25,7 @@ ghost use Rattle.menus.specs.Groups.{looked, partAt};
 ghost use Rattle.menus.specs.Groups as groups;
 ghost use Rattle.menus.specs.Offer.{menuRead};
 ghost use Rattle.octets.specs.Refusals.{number};
-ghost use Rattle.offers.specs.Choosing.{saysChoice, choiceOf};
+ghost use Rattle.choices.specs.Choosing.{saysChoice, choiceOf};
 ghost use Rattle.offers.specs.Making.{sourceOf, madeCm, madeJm};
 ghost use Rattle.tailsprig.specs.Choosing.{choiceCode, sourceCode};
 ghost use Rattle.tailsprig.specs.Reading.{lookedCode, SmallLooked, noOffer, ReadsAs};
@@ -331,7 +331,7 @@ fn choice_code(choice: Choice) -> i32
 pub extern "C" fn tailsprig_choice(cm: &[u8], jm: &[u8]) -> i32
     ensures { λ r. ⌜ r ≡ choiceCode (choiceOf (now (cm .entry)) (now (jm .entry))) ⌝ }
 {
-    choice_code(offers::choice_of(cm, jm))
+    choice_code(choices::choice_of(cm, jm))
 }
 
 // A start as C gets it: 0 and the session, or a refusal and none.

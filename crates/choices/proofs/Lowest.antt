@@ -6,7 +6,7 @@ use mathlib.Core.Path.{_≡_, ap, _∙_}
 use mathlib.Core.Bool.{true, false}
 use Rattle.laws.specs.Choice.{choose}
 use Rattle.menus.specs.Items.{inSet}
-use Rattle.offers.specs.Choosing.{lowestFrom}
+use Rattle.choices.specs.Choosing.{lowestFrom}
 
 module _ (items i : ℕ) (h : i < 13) where
   more : lowestFrom items i (13 - i) ≡ lowestFrom items i (suc (13 - (i + 1)))

@@ -10,10 +10,10 @@ use Rattle.menus.specs.declared.Menu.{Menu}
 use Rattle.menus.specs.declared.Menu.the-variants.{Offers, Refused}
 use Rattle.menus.specs.Offer.{Read, saysRead, menuRead}
 use Rattle.octets.proofs.Numbers.{named, named-number}
-use Rattle.offers.specs.declared.Choice.{Choice}
-use Rattle.offers.specs.declared.Choice.the-variants.{Nothing, Mode, Pcm}
-use Rattle.offers.specs.declared.Choice.the-variants as choices
-use Rattle.offers.specs.Choosing.{Chosen, none, item, pcm, refusal, saysChoice, onRead}
+use Rattle.choices.specs.declared.Choice.{Choice}
+use Rattle.choices.specs.declared.Choice.the-variants.{Nothing, Mode, Pcm}
+use Rattle.choices.specs.declared.Choice.the-variants as choices
+use Rattle.choices.specs.Choosing.{Chosen, none, item, pcm, refusal, saysChoice, onRead}
 
 module _ (octets : List ℕ) (menu : Menu) (read : saysRead menu ≡ menuRead octets) (go : Offer → Chosen) where
   pub on-refused : (r : Refusal) → menu ≡ Refused r → refusal (number r) ≡ onRead (menuRead octets) go

@@ -10,9 +10,9 @@ use Rattle.menus.specs.declared.Offer.{Offer}
 use Rattle.menus.specs.Items.{inSet}
 use Rattle.menus.specs.Offer.{Read, menuRead}
 use Rattle.menus.specs.Offer as read
 use Rattle.offers.specs.Making.{paired}
-use Rattle.offers.specs.declared.Choice.{Choice}
-use Rattle.offers.specs.declared.Choice.the-variants.{Nothing, Mode, Pcm, Refused}
+use Rattle.choices.specs.declared.Choice.{Choice}
+use Rattle.choices.specs.declared.Choice.the-variants.{Nothing, Mode, Pcm, Refused}
 
 -- what a choice is: none, an item, PCM options, or a refusal's number
 pub data Chosen : Type 0 where

@@ -1,8 +1,8 @@
 use borrow.Author.Tests.{lt-ltb, le-ltb}
 use Rattle.laws.specs.Choice.{choose, both}
-use Rattle.offers.specs.Choosing.{pcmChoice}
-use Rattle.offers.proofs.choose_pcm.Statement.{statement}
-use Rattle.offers.proofs.choose_pcm.Tie as tie
+use Rattle.choices.specs.Choosing.{pcmChoice}
+use Rattle.choices.proofs.choose_pcm.Statement.{statement}
+use Rattle.choices.proofs.choose_pcm.Tie as tie
 
 returns : tie.Need-returns
 unfolding pcmChoice choose both

@@ -1,10 +1,10 @@
 use borrow.Author.Tests.{eq-eqb, ne-eqb}
 use Rattle.laws.specs.Choice.{choose, both}
-use Rattle.offers.specs.Choosing.{itemChoice}
+use Rattle.choices.specs.Choosing.{itemChoice}
 use mathlib.Core.Path.{sym, _∙_}
 use borrow.Author.Needs.{needs}
-use Rattle.offers.proofs.choose_item.Statement.{statement}
-use Rattle.offers.proofs.choose_item.Tie as tie
+use Rattle.choices.proofs.choose_item.Statement.{statement}
+use Rattle.choices.proofs.choose_item.Tie as tie
 
 returns : tie.Need-returns
 unfolding itemChoice choose

@@ -2,10 +2,10 @@ use borrow.Author.Needs.{needs}
 use native.Mathlib.Omega.{arith}
 use Prim.Native.Nat.{_≤_, _-_}
 use mathlib.Core.Path.{_≡_, refl, sym, _∙_}
-use Rattle.offers.specs.Choosing.{lowest, lowestFrom}
-use Rattle.offers.proofs.Lowest.{lowest-here, lowest-on, lowest-none}
-use Rattle.offers.proofs.lowest_item.Statement.{statement}
-use Rattle.offers.proofs.lowest_item.Tie as tie
+use Rattle.choices.specs.Choosing.{lowest, lowestFrom}
+use Rattle.choices.proofs.Lowest.{lowest-here, lowest-on, lowest-none}
+use Rattle.choices.proofs.lowest_item.Statement.{statement}
+use Rattle.choices.proofs.lowest_item.Tie as tie
 
 abbrev Inv-loop : tie.InvT-loop
 Inv-loop items i₀ i = (i ≤ 13) × (lowest items ≡ lowestFrom items i (13 - i))

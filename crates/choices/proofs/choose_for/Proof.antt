@@ -1,10 +1,10 @@
 use mathlib.Core.Path.{_∙_}
 use denote.Ref.{now}
-use Rattle.offers.specs.Choosing.{chosenFrom}
-use Rattle.offers.proofs.Reading.{on-refused, on-offered}
+use Rattle.choices.specs.Choosing.{chosenFrom}
+use Rattle.choices.proofs.Reading.{on-refused, on-offered}
 use borrow.Author.Needs.{needs}
-use Rattle.offers.proofs.choose_for.Statement.{statement}
-use Rattle.offers.proofs.choose_for.Tie as tie
+use Rattle.choices.proofs.choose_for.Statement.{statement}
+use Rattle.choices.proofs.choose_for.Tie as tie
 
 read-requires : tie.Need-read-requires
 read-requires c κs = search needs

@@ -1,9 +1,9 @@
 use borrow.Author.Tests.{lt-ltb, le-ltb}
 use Rattle.laws.specs.Choice.{choose}
-use Rattle.offers.specs.Choosing.{chosenFrom}
+use Rattle.choices.specs.Choosing.{chosenFrom}
 use borrow.Author.Needs.{needs}
-use Rattle.offers.proofs.choose_from.Statement.{statement}
-use Rattle.offers.proofs.choose_from.Tie as tie
+use Rattle.choices.proofs.choose_from.Statement.{statement}
+use Rattle.choices.proofs.choose_from.Tie as tie
 
 paired-options-requires : tie.Need-paired-options-requires
 paired-options-requires c κs = search needs
