@@ -1,7 +1,7 @@
 use borrow.Author.Tests.{eq-eqb, ne-eqb}
 use Rattle.laws.specs.Choice.{choose}
-use Rattle.tailsprig.proofs.kind_of.Statement.{statement}
-use Rattle.tailsprig.proofs.kind_of.Tie as tie
+use Rattle.codes.proofs.kind_of.Statement.{statement}
+use Rattle.codes.proofs.kind_of.Tie as tie
 
 returns : tie.Need-returns
 unfolding choose

@@ -3,10 +3,10 @@ use lib.IntN.{pos}
 use mir.Syntax.{w32}
 use mir.Val.{toZ, ofZ}
 use borrow.Author.Needs.{needs}
-use Rattle.tailsprig.proofs.Codes.{read-answer}
-use Rattle.tailsprig.proofs.Steps.{test-of, carried-refused, carried-below, carried-in, carried-fits, carried-above}
-use Rattle.tailsprig.proofs.carried.Statement.{statement}
-use Rattle.tailsprig.proofs.carried.Tie as tie
+use Rattle.codes.proofs.Codes.{read-answer}
+use Rattle.codes.proofs.Steps.{test-of, carried-refused, carried-below, carried-in, carried-fits, carried-above}
+use Rattle.codes.proofs.carried.Statement.{statement}
+use Rattle.codes.proofs.carried.Tie as tie
 
 returns : tie.Need-returns
 returns c =

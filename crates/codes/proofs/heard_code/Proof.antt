@@ -1,9 +1,9 @@
 use mathlib.Core.Path.{_∙_}
-use Rattle.tailsprig.proofs.Codes.{read-answer}
+use Rattle.codes.proofs.Codes.{read-answer}
 use Rattle.laws.specs.Choice.{choose}
 use borrow.Author.Needs.{needs}
-use Rattle.tailsprig.proofs.heard_code.Statement.{statement}
-use Rattle.tailsprig.proofs.heard_code.Tie as tie
+use Rattle.codes.proofs.heard_code.Statement.{statement}
+use Rattle.codes.proofs.heard_code.Tie as tie
 
 enum-told : tie.Need-enum-told
 enum-told c = search needs

@@ -1,8 +1,8 @@
 use mathlib.Core.Path.{_∙_}
-use Rattle.tailsprig.proofs.Codes.{read-back, read-answer}
+use Rattle.codes.proofs.Codes.{read-back, read-answer}
 use borrow.Author.Needs.{needs}
-use Rattle.tailsprig.proofs.step_code.Statement.{statement}
-use Rattle.tailsprig.proofs.step_code.Tie as tie
+use Rattle.codes.proofs.step_code.Statement.{statement}
+use Rattle.codes.proofs.step_code.Tie as tie
 
 enum-told : tie.Need-enum-told
 enum-told c = search needs

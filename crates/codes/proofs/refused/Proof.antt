@@ -3,10 +3,10 @@ use Prim.Native.Nat.{ℕ, _<_, _^_}
 use mathlib.Core.Path.{ap, _∙_}
 use lib.IntN.{pos, negℤ}
 use mir.Facts.{toZ-ofZ}
-use Rattle.tailsprig.proofs.Codes.{negated-is, negated-fits}
+use Rattle.codes.proofs.Codes.{negated-is, negated-fits}
 use borrow.Author.Needs.{needs}
-use Rattle.tailsprig.proofs.refused.Statement.{statement}
-use Rattle.tailsprig.proofs.refused.Tie as tie
+use Rattle.codes.proofs.refused.Statement.{statement}
+use Rattle.codes.proofs.refused.Tie as tie
 
 small : (c : tie.After-refusal-number) → c .refusal-number .result < 2 ^ 31
 small c = omega (arith, c .refusal-number .ok)
