@@ -25,7 +25,7 @@ use Rattle.menus.specs.Groups.{firstGroup, frontPart, groupOf}
 use Rattle.menus.specs.Offer.{Read, offers, menuRead}
 use Rattle.menus.specs.Offer as menus
 use Rattle.offers.specs.Making.{paired}
-use Rattle.offers.specs.Choosing.{Chosen, none, item, lowestFrom, pcmChoice, itemChoice, chosenFrom, choiceOf}
+use Rattle.choices.specs.Choosing.{Chosen, none, item, lowestFrom, pcmChoice, itemChoice, chosenFrom, choiceOf}
 use Rattle.demands.proofs.Settled.{kindOf}
 use Rattle.demands.specs.Worked.{cmOfA}
 use Rattle.demands.specs.Firm.{refused, unwritten, Firm}

@@ -27,7 +27,7 @@ use Rattle.menus.proofs.Places.{place-octet}
 use Rattle.records.specs.declared.Record.{Record}
 use Rattle.octets.specs.Lent.{Outcome, roomFault, put}
 use Rattle.offers.specs.Making.{menuOf, jmOffer, recordFault}
-use Rattle.offers.specs.Choosing.{onRead, choiceFor, chosenFrom}
+use Rattle.choices.specs.Choosing.{onRead, choiceFor, chosenFrom}
 use Rattle.offers.proofs.Meaning.{same-offer}
 use Rattle.demands.specs.Incident.{unknownTag, IsGroup, Undefined, group, surplus, Extended, Ignored}
 

@@ -10,7 +10,7 @@ use Rattle.laws.proofs.Chosen.{chosen, both-true}
 use Rattle.menus.specs.declared.Offer.{Offer}
 use Rattle.menus.specs.Items.{inSet}
 use Rattle.offers.specs.Making.{analogue, digital, v91, paired}
-use Rattle.offers.specs.Choosing.{lowest, lowestFrom, pcmChoice, itemChoice, chosenFrom}
+use Rattle.choices.specs.Choosing.{lowest, lowestFrom, pcmChoice, itemChoice, chosenFrom}
 use Rattle.demands.specs.Shared.{Shared}
 
 -- the lowest item, where there is one, is in the set and below the end of what was looked at

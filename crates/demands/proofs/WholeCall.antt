@@ -12,8 +12,8 @@ use Rattle.laws.specs.Choice.{choose, both, either}
 use Rattle.laws.specs.Tests.{every, allBelow}
 use Rattle.laws.proofs.Computed.{below}
 use Rattle.laws.proofs.Chosen.{chosen, both-true, clash}
-use Rattle.offers.specs.Choosing.{Chosen, none, item, pcm, choiceOf}
-use Rattle.offers.specs.Choosing as choosing
+use Rattle.choices.specs.Choosing.{Chosen, none, item, pcm, choiceOf}
+use Rattle.choices.specs.Choosing as choosing
 use Rattle.steps.specs.declared.Session.{Session}
 use Rattle.steps.specs.Table.{callerStill, calling, quiet, menu, closing, pause, answererStill, answering, joint, over, going, cleared, goesOn, ansam, agreedJm, cjSent, agreedCm, cj, tick, rows}
 use Rattle.steps.specs.Session.{isChoice, isMode, isTe, caller, answerer, inRange, callerFrom, answererFrom}

@@ -11,7 +11,7 @@ use Rattle.menus.specs.Groups.{firstGroup, frontPart, groupOf}
 use Rattle.menus.specs.Offer.{menuRead}
 use Rattle.records.specs.Record.{modesAt, anyBad, badRecord}
 use Rattle.offers.specs.Making.{modulationGroup, joined, paired}
-use Rattle.offers.specs.Choosing.{lowestFrom, pcmChoice, itemChoice, chosenFrom}
+use Rattle.choices.specs.Choosing.{lowestFrom, pcmChoice, itemChoice, chosenFrom}
 use Rattle.steps.specs.Table.{rows}
 use Rattle.steps.specs.Session.{inRange}
 use Rattle.steps.specs.Stepping.{elapsed, applies, findRow, timed, steppedIn}

@@ -13,7 +13,7 @@ use Rattle.listening.specs.Hearing.{Told, silence, ci, menu, cj, refusal, heard
 use Rattle.listening.specs.Record.{fresh}
 use Rattle.stretches.specs.Hearing.{Report, reports}
 use Rattle.menus.specs.Offer.{Read, menuRead}
-use Rattle.offers.specs.Choosing.{Chosen, choiceOf}
+use Rattle.choices.specs.Choosing.{Chosen, choiceOf}
 
 -- a refusal and nothing else
 abbrev pub refused : Told → Bool

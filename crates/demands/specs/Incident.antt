@@ -13,7 +13,7 @@ use Rattle.octets.specs.Lists.{listFault, groupEnds}
 use Rattle.menus.specs.Offer.{modulation, pcmTag, protocol, access, menuRead}
 use Rattle.records.specs.declared.Record.{Record}
 use Rattle.offers.specs.Making.{madeJm}
-use Rattle.offers.specs.Choosing.{choiceOf}
+use Rattle.choices.specs.Choosing.{choiceOf}
 
 -- a tag outside the table
 abbrev pub unknownTag : ℕ → Bool

@@ -16,7 +16,7 @@ use Rattle.menus.specs.Offer.{modulation, offerOf, offers, menuRead}
 use Rattle.records.specs.declared.Record.{Record}
 use Rattle.records.specs.Record.{flag, inUse, badRecord}
 use Rattle.offers.specs.Making.{menuOf, bit, cmOffer, analogue, digital, v91, paired, jmOffer}
-use Rattle.offers.specs.Choosing.{Chosen, none, refusal, choiceOf}
+use Rattle.choices.specs.Choosing.{Chosen, none, refusal, choiceOf}
 
 -- a record of six functions that is accepted
 pub record Accepted (own : Record) : Type 0 where

@@ -7,7 +7,7 @@ use mathlib.Core.List.{List, [], _∷_, _++_}
 use lib.Dec.{leb, ltb, eqb}
 use Rattle.laws.specs.Choice.{choose, both}
 use Rattle.records.specs.declared.Record.{Record}
-use Rattle.offers.specs.Choosing.{Chosen, none, item, pcm, refusal}
+use Rattle.choices.specs.Choosing.{Chosen, none, item, pcm, refusal}
 use Rattle.steps.specs.declared.Session.{Session}
 use Rattle.steps.specs.Table.{over, cleared, goesOn, ansam, agreedJm, cjSent, agreedCm, cj, tick}
 use Rattle.steps.specs.Session.{isTe, isMode, callerFrom, answererFrom}

@@ -14,8 +14,8 @@ use Rattle.sequences.specs.Writing.{written}
 use Rattle.records.specs.declared.Record.{Record}
 use Rattle.records.specs.Record.{noModes}
 use Rattle.offers.specs.Making.{madeCm, madeJm}
-use Rattle.offers.specs.Choosing.{Chosen, none, item, pcm, choiceOf}
-use Rattle.offers.specs.Choosing as choosing
+use Rattle.choices.specs.Choosing.{Chosen, none, item, pcm, choiceOf}
+use Rattle.choices.specs.Choosing as choosing
 use Rattle.steps.specs.declared.Session.{Session}
 use Rattle.steps.specs.Table.{quiet, menu, going, tick}
 use Rattle.steps.specs.Session.{caller}

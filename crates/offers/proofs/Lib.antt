@@ -1,5 +1,3 @@
-pub mod Lowest
-pub mod Reading
 pub mod Making
 pub mod Groups
 pub mod Meaning

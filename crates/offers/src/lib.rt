@@ -1,4 +1,4 @@
-// Offers: the menus we make, CM and JM, the call function octet, and the choice from the menus of both ends.
+// Offers: the menus we make, CM and JM, and the call function octet.
 use menus::Item;
 use menus::Menu;
 use menus::Offer;
@@ -20,15 +20,6 @@ ghost use Rattle.menus.specs.Offer.{offerOf};
 ghost use Rattle.records.specs.Record.{badRecord};
 ghost use Rattle.offers.specs.Making.{categoryOctet, oneOctet, modulationGroup, groupsOf, menuOf, bit, withItem0, accessOptions, cmOfferOf, cmOffer, paired, withItem1, jmFunction, jmOfferOf, jmOffer, readable, sourceOf, callFunction, madeCm, madeJm};
 ghost use Rattle.offers.specs.Parts.{WritesGroup, Says};
-ghost use Rattle.offers.specs.Choosing.{lowest, saysChoice, pcmChoice, itemChoice, chosenFrom, choiceFor, choiceOf};
-
-// What both ends go on with.
-pub enum Choice {
-    Nothing,
-    Mode(Item),
-    Pcm(u8),
-    Refused(Refusal),
-}
 
 // Where the call function octet of a JM stands: in the heard CM, in our own one, or nowhere.
 pub enum Source {
@@ -121,7 +112,7 @@ fn both_bits(a: u8, b: u8) -> u8
 }
 
 // The PCM options of one end that pair with those of the other: b5 with b6, b6 with b5, b7 with b7.
-fn paired_options(theirs: u8, ours: u8) -> u8
+pub fn paired_options(theirs: u8, ours: u8) -> u8
     ensures { λ r. ⌜ r ≡ paired theirs ours ⌝ }
 {
     let b5 = both_bits(ours % 2, theirs / 2 % 2);
@@ -343,77 +334,5 @@ pub fn make_jm(own: Record, heard: &[u8], out: &mut [u8]) -> Wrote
             let modes = records::in_use(own, theirs.function);
             put_menu(out, answer_octet(own, heard), jm_offer(own, theirs, modes))
         }
-    }
-}
-
-// The lowest item from 1 to 12, 0 where there is none.
-fn lowest_item(items: u16) -> u8
-    ensures { λ r. ⌜ (r ≡ lowest items) × (r < 13) ⌝ }
-{
-    let mut i: u8 = 1;
-    while i < 13 {
-        if menus::in_set(items, Item(i)) {
-            return i;
-        }
-        i += 1;
-    }
-    0
-}
-
-fn choose_pcm(same_function: bool, options: u8) -> Choice
-    ensures { λ r. ⌜ saysChoice r ≡ pcmChoice «same_function» options ⌝ }
-{
-    if same_function {
-        if 0 < options {
-            return Choice::Pcm(options);
-        }
-        return Choice::Refused(Refusal::NotOffered);
-    }
-    Choice::Refused(Refusal::NotOffered)
-}
-
-fn choose_item(same_function: bool, offered: u16, item: u8) -> Choice
-    ensures { λ r. ⌜ saysChoice r ≡ itemChoice «same_function» offered item ⌝ }
-{
-    if item == 0 {
-        return Choice::Nothing;
-    }
-    if same_function {
-        if menus::in_set(offered, Item(item)) {
-            return Choice::Mode(Item(item));
-        }
-        return Choice::Refused(Refusal::NotOffered);
-    }
-    Choice::Refused(Refusal::NotOffered)
-}
-
-fn choose_from(cm: Offer, jm: Offer) -> Choice
-    ensures { λ r. ⌜ saysChoice r ≡ chosenFrom cm jm ⌝ }
-{
-    let same_function = cm.function == jm.function;
-    if 0 < jm.pcm {
-        return choose_pcm(same_function, paired_options(cm.pcm, jm.pcm));
-    }
-    choose_item(same_function, cm.items, lowest_item(jm.items))
-}
-
-fn choose_for(cm: Offer, jm: &[u8]) -> Choice
-    ensures { λ r. ⌜ saysChoice r ≡ choiceFor (now (jm .entry)) cm ⌝ }
-{
-    let menu = menus::read(jm);
-    match menu {
-        Menu::Refused(r) => Choice::Refused(r),
-        Menu::Offers(offer) => choose_from(cm, offer),
-    }
-}
-
-// The choice from CM and JM: nothing, an item, PCM with the options that pair, or a refusal.
-pub fn choice_of(cm: &[u8], jm: &[u8]) -> Choice
-    ensures { λ r. ⌜ saysChoice r ≡ choiceOf (now (cm .entry)) (now (jm .entry)) ⌝ }
-{
-    let menu = menus::read(cm);
-    match menu {
-        Menu::Refused(r) => Choice::Refused(r),
-        Menu::Offers(offer) => choose_for(offer, jm),
     }
 }

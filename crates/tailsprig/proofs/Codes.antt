@@ -1,17 +1,16 @@
--- Numbers as a signed 32-bit integer holds them, and that every answer fits one.
+-- How many were written fits the signed 32-bit integer that C gets.
 -- Assumes nothing.
-use Prim.Native.Nat.{ℕ, zero, suc, _<_, _≤_, _^_}
+use Prim.Native.Nat.{ℕ, _<_, _≤_, _^_}
 use native.Mathlib.Omega.{arith}
-use mathlib.Core.Path.{_≡_, refl, sym, ap, subst, _∙_}
+use mathlib.Core.Path.{_≡_, sym, ap, _∙_}
 use mathlib.Core.List.{List}
-use borrow.Author.Tests.{lt-ltb, eqb-true}
+use borrow.Author.Tests.{eqb-true}
 use lib.Dec.{eqb}
-use lib.IntN.{ℤ, pos, negsuc, negℤ, _-ℤ_, +ℤ-idl}
+use lib.IntN.{ℤ}
 use lib.ListN.{length}
 use lib.Signed.{mag}
 use mir.Syntax.{w32}
-use mir.Val.{SFits, toZ, ofZ}
-use mir.Facts.{toZ-ofZ}
+use mir.Val.{toZ, ofZ}
 use Rattle.laws.proofs.Chosen.{chosen}
 use Rattle.octets.specs.declared.Kind.{Kind}
 use Rattle.octets.specs.declared.Purpose.the-variants.{Writing}
@@ -26,18 +25,8 @@ use Rattle.menus.specs.Offer.{offerOf}
 use Rattle.records.specs.declared.Record.{Record}
 use Rattle.offers.specs.Making.{cmOffer, jmOffer, madeCm, madeJm}
 use Rattle.offers.proofs.Making.{menu-short}
+use Rattle.codes.proofs.Codes.{read-answer}
 use Rattle.tailsprig.specs.Codes.{code, Small, Returns}
-
-pub read-back : (n : ℕ) → n < 2 ^ 31 → toZ w32 n ≡ pos n
-read-back n h = simp (lt-ltb n (2 ^ 31) h)
-
--- a small number, negated
-pub negated-is : (n : ℕ) → n < 2 ^ 31 → pos 0 -ℤ toZ w32 n ≡ negℤ (pos n)
-negated-is n h = ap (λ (z : ℤ). pos 0 -ℤ z) (read-back n h) ∙ +ℤ-idl (negℤ (pos n))
-
-pub negated-fits : (n : ℕ) → n < 2 ^ 31 → SFits w32 (negℤ (pos n))
-negated-fits zero h = record { sfits = h }
-negated-fits (suc n) h = record { sfits = omega arith }
 
 -- no line is too long to be counted
 put-small : (f : ℕ) (line out : List ℕ) → (f ≡ 0 → length line < 2 ^ 31) → Small (put f line out .answer)
@@ -64,10 +53,6 @@ jm-small own heard out = put-small _ _ out (λ _. omega (arith, menu-short (jmOf
 
 pub meets-small : (laid : Outcome) (w : Wrote) (after : List ℕ) → Meets laid w after → Small (laid .answer) → Small (says w)
 meets-small laid w after m s = rw (m .answer) s
-
--- what a call answers comes to C as it is
-pub read-answer : (r : ℤ) → mag r < 2 ^ 31 → toZ w32 (ofZ w32 r) ≡ r
-read-answer r f = toZ-ofZ (record { sfits = f })
 
 pub returns-as : (laid : Outcome) (w : Wrote) (after : List ℕ) (r : ℤ) → Meets laid w after → mag r < 2 ^ 31 → r ≡ code (says w) → Returns laid (toZ w32 (ofZ w32 r)) after
 returns-as laid w after r m f e = record { answer = read-answer r f ∙ e ∙ ap code (m .answer); buffer = m .buffer }

@@ -12,7 +12,8 @@ use Rattle.listening.specs.Parts.{glanced, settled, touches, lightlyTold, withE
 use Rattle.listening.proofs.Parts.{parts-heard}
 use Rattle.tailsprig.specs.declared.Light.{Light}
 use Rattle.tailsprig.specs.declared.Heavy.{Heavy}
-use Rattle.tailsprig.specs.Hearing.{toldCode, hearOf, HearsAs, RunsAs}
+use Rattle.codes.specs.Hearing.{toldCode}
+use Rattle.tailsprig.specs.Hearing.{hearOf, HearsAs, RunsAs}
 use Rattle.tailsprig.specs.declared.Ran.{Ran}
 
 -- answers with equal fields are equal

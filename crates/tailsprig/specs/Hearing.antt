@@ -1,25 +1,16 @@
 -- Listening, as the numbers that cross to C.
 use Prim.Native.Nat.{ℕ}
 use mathlib.Core.Path.{_≡_}
-use mathlib.Core.Bool.{Bool, true, false}
-use lib.IntN.{ℤ, pos, negℤ}
+use lib.IntN.{ℤ}
 use Rattle.laws.specs.Choice.{choose}
 use Rattle.listening.specs.declared.Ear.{Ear}
 use Rattle.listening.specs.declared.Listener.{Listener}
-use Rattle.listening.specs.Hearing.{Told, silence, ci, menu, cj, refusal, Outcome, Many}
+use Rattle.listening.specs.Hearing.{Outcome, Many}
 use Rattle.listening.specs.Parts.{glanced, settled, touches, lightlyTold, withEar}
+use Rattle.codes.specs.Hearing.{toldCode}
 use Rattle.tailsprig.specs.declared.Light.{Light}
 use Rattle.tailsprig.specs.declared.Heavy.{Heavy}
 use Rattle.tailsprig.specs.declared.Ran.{Ran}
-
--- nothing, CI, a menu, an agreed menu, CJ, or a refusal n as -n
-abbrev pub toldCode : Told → ℤ
-toldCode silence = pos 0
-toldCode ci = pos 1
-toldCode (menu false) = pos 2
-toldCode (menu true) = pos 3
-toldCode cj = pos 4
-toldCode (refusal n) = negℤ (pos n)
 
 -- what is laid down for a bit, as a C program gets it
 pub record HearsAs (laid : Outcome) (r : ℤ) (after : Listener) : Type 0 where

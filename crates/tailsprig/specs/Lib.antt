@@ -1,5 +1,4 @@
 pub mod Codes
 pub mod Hearing
 pub mod Reading
-pub mod Choosing
 pub mod Steps

@@ -1,12 +1,12 @@
 -- Looking and reading, as the numbers that cross to C.
-use Prim.Native.Nat.{ℕ, _<_, _^_}
+use Prim.Native.Nat.{_<_, _^_}
 use mathlib.Core.Path.{_≡_}
-use mathlib.Core.Bool.{false}
 use lib.IntN.{ℤ, pos, negℤ}
 use Rattle.menus.specs.declared.Offer.{Offer}
 use Rattle.menus.specs.Groups.{Looked, place, nowhere, refusal}
 use Rattle.menus.specs.Offer.{Read, offers}
 use Rattle.menus.specs.Offer as reading
+use Rattle.codes.specs.Reading.{noOffer}
 use Rattle.tailsprig.specs.declared.MenuRead.{MenuRead}
 
 -- a place, 64 for nowhere since no place is as high, or a refusal n as -n
@@ -20,10 +20,6 @@ abbrev pub SmallLooked : Looked → Type 0
 SmallLooked (place n) = n < 2 ^ 31
 SmallLooked nowhere = Unit
 SmallLooked (refusal n) = Unit
-
--- what stands beside a refusal
-abbrev pub noOffer : Offer
-noOffer = record { function = 0; items = 0; pcm = 0; lapm = false; access = false; «access_options» = 0 }
 
 -- 0 with what is offered, or a refusal n as -n
 abbrev pub readCode : Read → ℤ

@@ -1,48 +1,37 @@
 // The library as a C program sees it: numbers, byte slices, and a refusal n as the answer -n. include/tailsprig.h is its manual.
+use codes::Asked;
 use listening::Ear;
-use listening::Heard;
 use listening::Listener;
 use menus::Found;
 use menus::Menu;
 use menus::Offer;
-use octets::Kind;
 use octets::Refusal;
 use octets::Wrote;
-use offers::Choice;
-use offers::Source;
 use records::Record;
-use steps::Answer;
 use steps::Session;
 use steps::Started;
 ghost use mathlib.Core.Path.{_≡_};
-ghost use lib.IntN.{pos, negℤ};
 ghost use Rattle.listening.specs.Record.{fresh};
 ghost use Rattle.listening.specs.Hearing.{heard, heardMany};
-ghost use Rattle.listening.specs.Hearing as hearing;
 ghost use Rattle.listening.specs.Parts.{touches, lightlyTold, Told16};
 ghost use lib.ListN.{length};
 ghost use Rattle.menus.specs.Groups.{looked, partAt};
 ghost use Rattle.menus.specs.Groups as groups;
 ghost use Rattle.menus.specs.Offer.{menuRead};
-ghost use Rattle.octets.specs.Refusals.{number};
-ghost use Rattle.offers.specs.Choosing.{saysChoice, choiceOf};
+ghost use Rattle.choices.specs.Choosing.{choiceOf};
 ghost use Rattle.offers.specs.Making.{sourceOf, madeCm, madeJm};
-ghost use Rattle.tailsprig.specs.Choosing.{choiceCode, sourceCode};
-ghost use Rattle.tailsprig.specs.Reading.{lookedCode, SmallLooked, noOffer, ReadsAs};
+ghost use Rattle.codes.specs.Choosing.{choiceCode, sourceCode};
+ghost use Rattle.tailsprig.specs.Reading.{lookedCode, SmallLooked, ReadsAs};
 ghost use Rattle.octets.specs.Lent.{says};
 ghost use Rattle.sequences.specs.Writing.{writtenCj};
-ghost use Rattle.tailsprig.specs.Hearing.{toldCode, lightOf, heavyOf, HearsAs, RunsAs};
+ghost use Rattle.codes.specs.Hearing.{toldCode};
+ghost use Rattle.tailsprig.specs.Hearing.{lightOf, heavyOf, HearsAs, RunsAs};
 ghost use Rattle.steps.specs.Session.{callerFrom, answererFrom, defaultTe, startedCaller};
 ghost use Rattle.steps.specs.Stepping.{stepped};
-ghost use Rattle.steps.specs.Stepping as stepping;
-ghost use Rattle.tailsprig.specs.Steps.{noSession, StartsAs, stepCode, StepsAs, carriedOf};
-ghost use Rattle.tailsprig.specs.Codes.{code, Small, Returns, kindOf, writtenAs};
-
-fn refused(r: Refusal) -> i32
-    ensures { λ n. ⌜ n ≡ negℤ (pos (number r)) ⌝ }
-{
-    0 - octets::refusal_number(r) as i32
-}
+ghost use Rattle.codes.specs.Steps.{carriedOf};
+ghost use Rattle.tailsprig.specs.Steps.{StartsAs, StepsAs};
+ghost use Rattle.codes.specs.Kinds.{kindOf, writtenAs};
+ghost use Rattle.tailsprig.specs.Codes.{code, Small, Returns};
 
 fn wrote(w: Wrote) -> i32
     requires { ⌜ Small (says w) ⌝ }
@@ -50,35 +39,17 @@ fn wrote(w: Wrote) -> i32
 {
     match w {
         Wrote::Count(n) => n as i32,
-        Wrote::Refused(r) => refused(r),
+        Wrote::Refused(r) => codes::refused(r),
     }
-}
-
-// A kind as a number asks for it.
-enum Asked {
-    Known(Kind),
-    Unknown,
-}
-
-fn kind_of(kind: u8) -> Asked
-    ensures { λ r. ⌜ r ≡ kindOf kind ⌝ }
-{
-    if kind == 1 {
-        return Asked::Known(Kind::Ci);
-    }
-    if kind == 2 {
-        return Asked::Known(Kind::Menu);
-    }
-    Asked::Unknown
 }
 
 #[no_mangle]
 pub extern "C" fn tailsprig_write(kind: u8, octets: &[u8], copies: u16, out: &mut [u8]) -> i32
     ensures { λ r. ⌜ Returns (writtenAs (kindOf kind) (now (octets .entry)) copies (now (out .entry))) r (now (out .exit)) ⌝ }
 {
-    let asked = kind_of(kind);
+    let asked = codes::kind_of(kind);
     let Asked::Known(known) = asked else {
-        return refused(Refusal::BadRecord);
+        return codes::refused(Refusal::BadRecord);
     };
     wrote(sequences::write(known, octets, copies, out))
 }
@@ -110,18 +81,6 @@ pub struct Ran {
     pub rec: Listener,
     pub taken: usize,
     pub code: i32,
-}
-
-fn heard_code(h: Heard) -> i32
-    ensures { λ n. ⌜ n ≡ toldCode (hearing.says h) ⌝ }
-{
-    match h {
-        Heard::Nothing => 0,
-        Heard::Ci => 1,
-        Heard::Menu(agreed) => { if agreed { 3 } else { 2 } }
-        Heard::Cj => 4,
-        Heard::Refused(r) => refused(r),
-    }
 }
 
 fn light_code(act: u32) -> i32
@@ -165,7 +124,7 @@ fn hear_heavy(rec: Listener, act: u32) -> Heavy
     let heard = a.heard;
     Heavy {
         rec: next,
-        code: heard_code(heard),
+        code: codes::heard_code(heard),
     }
 }
 
@@ -211,7 +170,7 @@ pub extern "C" fn tailsprig_hear_many(rec: Listener, bits: &[u8]) -> Ran
     Ran {
         rec: next,
         taken: ran.taken,
-        code: heard_code(heard),
+        code: codes::heard_code(heard),
     }
 }
 
@@ -229,7 +188,7 @@ fn found_code(f: Found) -> i32
     match f {
         Found::At(place) => place as i32,
         Found::Nothing => 64,
-        Found::Refused(r) => refused(r),
+        Found::Refused(r) => codes::refused(r),
     }
 }
 
@@ -250,19 +209,6 @@ pub extern "C" fn tailsprig_part(octets: &[u8], place: usize) -> usize
     part.len()
 }
 
-fn no_offer() -> Offer
-    ensures { λ r. ⌜ r ≡ noOffer ⌝ }
-{
-    Offer {
-        function: 0,
-        items: 0,
-        pcm: 0,
-        lapm: false,
-        access: false,
-        access_options: 0,
-    }
-}
-
 // Reads a menu.
 #[no_mangle]
 pub extern "C" fn tailsprig_read(octets: &[u8]) -> MenuRead
@@ -275,8 +221,8 @@ pub extern "C" fn tailsprig_read(octets: &[u8]) -> MenuRead
             code: 0,
         },
         Menu::Refused(r) => MenuRead {
-            offer: no_offer(),
-            code: refused(r),
+            offer: codes::no_offer(),
+            code: codes::refused(r),
         },
     }
 }
@@ -297,33 +243,12 @@ pub extern "C" fn tailsprig_jm(own: Record, heard: &[u8], out: &mut [u8]) -> i32
     wrote(offers::make_jm(own, heard, out))
 }
 
-fn source_code(source: Source) -> u8
-    ensures { λ n. ⌜ n ≡ sourceCode source ⌝ }
-{
-    match source {
-        Source::Neither => 0,
-        Source::Heard => 1,
-        Source::Own => 2,
-    }
-}
-
 // In which of two menus the call function octet of a JM stands.
 #[no_mangle]
 pub extern "C" fn tailsprig_call_function(own: Record, heard: &[u8], own_cm: &[u8]) -> u8
     ensures { λ r. ⌜ r ≡ sourceCode (sourceOf own (now (heard .entry)) (now («own_cm» .entry))) ⌝ }
 {
-    source_code(offers::call_source(own, heard, own_cm))
-}
-
-fn choice_code(choice: Choice) -> i32
-    ensures { λ n. ⌜ n ≡ choiceCode (saysChoice choice) ⌝ }
-{
-    match choice {
-        Choice::Nothing => 0,
-        Choice::Mode(item) => item.0 as i32,
-        Choice::Pcm(options) => (16 + options as u16) as i32,
-        Choice::Refused(r) => refused(r),
-    }
+    codes::source_code(offers::call_source(own, heard, own_cm))
 }
 
 // What both ends go on with, from the two menus.
@@ -331,7 +256,7 @@ fn choice_code(choice: Choice) -> i32
 pub extern "C" fn tailsprig_choice(cm: &[u8], jm: &[u8]) -> i32
     ensures { λ r. ⌜ r ≡ choiceCode (choiceOf (now (cm .entry)) (now (jm .entry))) ⌝ }
 {
-    choice_code(offers::choice_of(cm, jm))
+    codes::choice_code(choices::choice_of(cm, jm))
 }
 
 // A start as C gets it: 0 and the session, or a refusal and none.
@@ -348,19 +273,6 @@ pub struct StepTaken {
     pub code: i32,
 }
 
-fn no_session() -> Session
-    ensures { λ r. ⌜ r ≡ noSession ⌝ }
-{
-    Session {
-        entry: 0,
-        te: 0,
-        end: 0,
-        state: 0,
-        chosen: 0,
-        ended: 0,
-    }
-}
-
 // A caller's session from this time on, with a given Te.
 #[no_mangle]
 pub extern "C" fn tailsprig_start_caller(start: u32, te: u32) -> CallerStart
@@ -373,8 +285,8 @@ pub extern "C" fn tailsprig_start_caller(start: u32, te: u32) -> CallerStart
             code: 0,
         },
         Started::Refused(r) => CallerStart {
-            session: no_session(),
-            code: refused(r),
+            session: codes::no_session(),
+            code: codes::refused(r),
         },
     }
 }
@@ -395,44 +307,16 @@ pub extern "C" fn tailsprig_start_answerer(start: u32) -> Session
     steps::start_answerer(start)
 }
 
-fn step_code(answer: Answer) -> i32
-    ensures { λ n. ⌜ n ≡ stepCode (stepping.says answer) ⌝ }
-{
-    match answer {
-        Answer::Same => 0,
-        Answer::Entered(state) => state as i32,
-        Answer::Ended(how) => (16 + how as u16) as i32,
-        Answer::GoOn(choice) => (32 + choice as u16) as i32,
-        Answer::Refused(r) => refused(r),
-    }
-}
-
-// What an event carries, from the answer of tailsprig_choice or an item: 255 for a number that no event may carry.
-fn carried(value: i32) -> u8
-    ensures { λ r. ⌜ r ≡ carriedOf value ⌝ }
-{
-    if value == -11 {
-        return steps::REFUSED_WITH_11;
-    }
-    if value < 0 {
-        return 255;
-    }
-    if value < 24 {
-        return value as u8;
-    }
-    255
-}
-
 // An event of this end, what it carries, and its time.
 #[no_mangle]
 pub extern "C" fn tailsprig_step(session: Session, event: u8, value: i32, now: u32) -> StepTaken
     ensures { λ r. ⌜ StepsAs (stepped session event (carriedOf value) now) r ⌝ }
 {
-    let taken = steps::step(session, event, carried(value), now);
+    let taken = steps::step(session, event, codes::carried(value), now);
     let next = taken.session;
     let answer = taken.answer;
     StepTaken {
         session: next,
-        code: step_code(answer),
+        code: codes::step_code(answer),
     }
 }

@@ -1,7 +1,7 @@
 use mathlib.Core.Path.{ap, _∙_}
-use Rattle.tailsprig.specs.Hearing.{toldCode}
+use Rattle.codes.specs.Hearing.{toldCode}
 use Rattle.tailsprig.proofs.Parts.{same-heavy}
-use Rattle.tailsprig.proofs.Codes.{read-answer}
+use Rattle.codes.proofs.Codes.{read-answer}
 use Rattle.laws.specs.Choice.{choose}
 use borrow.Author.Needs.{needs}
 use Rattle.tailsprig.proofs.hear_heavy.Statement.{statement}

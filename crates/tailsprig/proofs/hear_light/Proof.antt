@@ -1,10 +1,10 @@
 use mathlib.Core.Path.{ap, _∙_}
 use Rattle.listening.specs.declared.Stepped.{Stepped}
 use Rattle.listening.specs.Parts.{touches, lightlyTold}
-use Rattle.tailsprig.specs.Hearing.{toldCode}
+use Rattle.codes.specs.Hearing.{toldCode}
 use Rattle.tailsprig.proofs.Parts.{same-light}
 use Rattle.listening.proofs.Parts.{glanced-told}
-use Rattle.tailsprig.proofs.Codes.{read-answer}
+use Rattle.codes.proofs.Codes.{read-answer}
 use Rattle.laws.specs.Choice.{choose}
 use borrow.Author.Needs.{needs}
 use Rattle.tailsprig.proofs.hear_light.Statement.{statement}

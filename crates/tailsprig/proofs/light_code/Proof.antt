@@ -2,7 +2,7 @@ use native.Mathlib.Omega.{arith}
 use Prim.Native.Nat.{_<_, _-_, _^_}
 use mir.Facts.{toZ-ofZ}
 use Rattle.listening.specs.Parts.{lightlyTold}
-use Rattle.tailsprig.proofs.Codes.{negated-is, negated-fits}
+use Rattle.codes.proofs.Codes.{negated-is, negated-fits}
 use borrow.Author.Tests.{lt-ltb, le-ltb, eq-eqb, ne-eqb}
 use Rattle.laws.specs.Choice.{choose}
 use borrow.Author.Needs.{needs}

@@ -1,5 +1,5 @@
 use mathlib.Core.Path.{ap, _∙_}
-use Rattle.tailsprig.specs.Choosing.{sourceCode}
+use Rattle.codes.specs.Choosing.{sourceCode}
 use borrow.Author.Needs.{needs}
 use Rattle.tailsprig.proofs.tailsprig_call_function.Statement.{statement}
 use Rattle.tailsprig.proofs.tailsprig_call_function.Tie as tie

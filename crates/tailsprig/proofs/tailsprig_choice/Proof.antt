@@ -1,6 +1,6 @@
 use mathlib.Core.Path.{ap, _∙_}
-use Rattle.tailsprig.specs.Choosing.{choiceCode}
-use Rattle.tailsprig.proofs.Codes.{read-answer}
+use Rattle.codes.specs.Choosing.{choiceCode}
+use Rattle.codes.proofs.Codes.{read-answer}
 use borrow.Author.Needs.{needs}
 use Rattle.tailsprig.proofs.tailsprig_choice.Statement.{statement}
 use Rattle.tailsprig.proofs.tailsprig_choice.Tie as tie

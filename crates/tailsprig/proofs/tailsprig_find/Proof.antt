@@ -1,7 +1,7 @@
 use mathlib.Core.Path.{ap, _∙_}
 use denote.Ref.{now}
 use Rattle.tailsprig.specs.Reading.{lookedCode}
-use Rattle.tailsprig.proofs.Codes.{read-answer}
+use Rattle.codes.proofs.Codes.{read-answer}
 use Rattle.tailsprig.proofs.Reading.{looked-small}
 use borrow.Author.Needs.{needs}
 use Rattle.tailsprig.proofs.tailsprig_find.Statement.{statement}

@@ -1,6 +1,6 @@
 use mathlib.Core.Path.{refl, sym, ap, _∙_}
 use Rattle.menus.specs.Offer.{saysRead}
-use Rattle.tailsprig.proofs.Codes.{read-answer}
+use Rattle.codes.proofs.Codes.{read-answer}
 use borrow.Author.Needs.{needs}
 use Rattle.tailsprig.proofs.tailsprig_read.Statement.{statement}
 use Rattle.tailsprig.proofs.tailsprig_read.Tie as tie

@@ -1,6 +1,6 @@
 use mathlib.Core.Path.{refl, sym, ap, _∙_}
 use Rattle.steps.specs.Session.{saysStarted}
-use Rattle.tailsprig.proofs.Codes.{read-answer}
+use Rattle.codes.proofs.Codes.{read-answer}
 use borrow.Author.Needs.{needs}
 use Rattle.tailsprig.proofs.tailsprig_start_caller.Statement.{statement}
 use Rattle.tailsprig.proofs.tailsprig_start_caller.Tie as tie

@@ -1,8 +1,8 @@
 use Prim.Native.Nat.{ℕ}
 use mathlib.Core.Path.{ap, subst, _∙_}
 use Rattle.steps.specs.Stepping.{Steps, stepped}
-use Rattle.tailsprig.specs.Steps.{stepCode, carriedOf}
-use Rattle.tailsprig.proofs.Codes.{read-answer}
+use Rattle.codes.specs.Steps.{stepCode, carriedOf}
+use Rattle.codes.proofs.Codes.{read-answer}
 use borrow.Author.Needs.{needs}
 use Rattle.tailsprig.proofs.tailsprig_step.Statement.{statement}
 use Rattle.tailsprig.proofs.tailsprig_step.Tie as tie

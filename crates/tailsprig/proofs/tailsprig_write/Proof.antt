@@ -1,6 +1,7 @@
 use mathlib.Core.Path.{refl, sym, _∙_}
 use denote.Ref.{now}
-use Rattle.tailsprig.proofs.Codes.{read-answer, written-small, meets-small, returns-as}
+use Rattle.codes.proofs.Codes.{read-answer}
+use Rattle.tailsprig.proofs.Codes.{written-small, meets-small, returns-as}
 use borrow.Author.Needs.{needs}
 use Rattle.tailsprig.proofs.tailsprig_write.Statement.{statement}
 use Rattle.tailsprig.proofs.tailsprig_write.Tie as tie

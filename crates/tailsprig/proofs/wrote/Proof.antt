@@ -1,6 +1,6 @@
 use Prim.Native.Nat.{_<_, _^_}
 use mathlib.Core.Path.{_∙_}
-use Rattle.tailsprig.proofs.Codes.{read-back, read-answer}
+use Rattle.codes.proofs.Codes.{read-back, read-answer}
 use borrow.Author.Needs.{needs}
 use Rattle.tailsprig.proofs.wrote.Statement.{statement}
 use Rattle.tailsprig.proofs.wrote.Tie as tie

@@ -1,0 +1,5 @@
+pub mod Kinds
+pub mod Hearing
+pub mod Reading
+pub mod Choosing
+pub mod Steps
