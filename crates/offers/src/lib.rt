@@ -1,5 +1,5 @@
 // Offers: the menus we make, CM and JM, the call function octet, and the choice from the menus of both ends.
-use menus::Item;
+use items::Item;
 use menus::Menu;
 use menus::Offer;
 use octets::Purpose;
@@ -154,7 +154,7 @@ fn jm_offer(own: Record, cm: Offer, modes: Modes) -> Offer
 {
     let shared = modes.items & cm.items;
     let pcm = with_item_1(
-        menus::in_set(shared, Item(1)),
+        items::in_set(shared, Item(1)),
         paired_options(cm.pcm, modes.pcm),
     );
     let caller = cm.access_options % 2;
@@ -190,9 +190,9 @@ fn write_modulation(out: &mut [u8], items: u16) -> usize
     requires { ⌜ 3 ≤ length (now out) ⌝ }
     ensures { λ r. ⌜ WritesGroup (modulationGroup items) (now (out .entry)) r (now (out .exit)) ⌝ }
 {
-    out[0] = menus::modulation_octet(items, 0);
-    out[1] = menus::modulation_octet(items, 1);
-    out[2] = menus::modulation_octet(items, 2);
+    out[0] = items::modulation_octet(items, 0);
+    out[1] = items::modulation_octet(items, 1);
+    out[2] = items::modulation_octet(items, 2);
     3
 }
 
@@ -352,7 +352,7 @@ fn lowest_item(items: u16) -> u8
 {
     let mut i: u8 = 1;
     while i < 13 {
-        if menus::in_set(items, Item(i)) {
+        if items::in_set(items, Item(i)) {
             return i;
         }
         i += 1;
@@ -379,7 +379,7 @@ fn choose_item(same_function: bool, offered: u16, item: u8) -> Choice
         return Choice::Nothing;
     }
     if same_function {
-        if menus::in_set(offered, Item(item)) {
+        if items::in_set(offered, Item(item)) {
             return Choice::Mode(Item(item));
         }
         return Choice::Refused(Refusal::NotOffered);
