@@ -5,7 +5,7 @@ use native.Mathlib.Omega.{arith}
 use mathlib.Core.Path.{_≡_, ap, _∙_}
 use mathlib.Core.Bool.{true, false}
 use Rattle.laws.specs.Choice.{choose}
-use Rattle.menus.specs.Items.{inSet}
+use Rattle.items.specs.Items.{inSet}
 use Rattle.choices.specs.Choosing.{lowestFrom}
 
 module _ (items i : ℕ) (h : i < 13) where

@@ -7,7 +7,7 @@ use Rattle.laws.specs.Choice.{choose, both}
 use Rattle.octets.specs.declared.Refusal.the-variants.{NotOffered}
 use Rattle.octets.specs.Refusals.{number}
 use Rattle.menus.specs.declared.Offer.{Offer}
-use Rattle.menus.specs.Items.{inSet}
+use Rattle.items.specs.Items.{inSet}
 use Rattle.menus.specs.Offer.{Read, menuRead}
 use Rattle.menus.specs.Offer as read
 use Rattle.offers.specs.Making.{paired}

@@ -1,5 +1,5 @@
 // Choices: what both ends go on with, from the menus of both.
-use menus::Item;
+use items::Item;
 use menus::Menu;
 use menus::Offer;
 use octets::Refusal;
@@ -21,7 +21,7 @@ fn lowest_item(items: u16) -> u8
 {
     let mut i: u8 = 1;
     while i < 13 {
-        if menus::in_set(items, Item(i)) {
+        if items::in_set(items, Item(i)) {
             return i;
         }
         i += 1;
@@ -48,7 +48,7 @@ fn choose_item(same_function: bool, offered: u16, item: u8) -> Choice
         return Choice::Nothing;
     }
     if same_function {
-        if menus::in_set(offered, Item(item)) {
+        if items::in_set(offered, Item(item)) {
             return Choice::Mode(Item(item));
         }
         return Choice::Refused(Refusal::NotOffered);

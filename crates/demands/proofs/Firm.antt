@@ -20,7 +20,7 @@ use Rattle.listening.specs.Hearing.{Told, changed, agreed, reported, told, acte
 use Rattle.listening.specs.Record.{fresh}
 use Rattle.stretches.specs.Hearing.{Report, message, cj, reports}
 use Rattle.stretches.specs.Hearing as stretched
-use Rattle.menus.specs.Items.{places, placeOf, hasItem, setOf, inSet}
+use Rattle.items.specs.Items.{places, placeOf, hasItem, setOf, inSet}
 use Rattle.menus.specs.Groups.{firstGroup, frontPart, groupOf}
 use Rattle.menus.specs.Offer.{Read, offers, menuRead}
 use Rattle.menus.specs.Offer as menus

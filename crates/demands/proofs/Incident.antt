@@ -17,13 +17,13 @@ use Rattle.octets.specs.Lists.{before, firstFault, listFault, groupEnds}
 use Rattle.octets.proofs.Lists.{accepted-opens, accepted-rest, faultless, faultless-parts, group-starts}
 use Rattle.octets.proofs.Fine.{extensions-fine, group-fine, accepted-by}
 use Rattle.menus.specs.declared.Offer.{Offer}
-use Rattle.menus.specs.Items.{placeOf, bitOf, hasItem, setOf, itemsOf}
+use Rattle.items.specs.Items.{placeOf, bitOf, hasItem, setOf, itemsOf}
 use Rattle.menus.specs.Groups.{opensGroup, groupOf, optionsIn}
 use Rattle.menus.specs.Offer.{Read, modulation, pcmTag, protocol, access, stands, offerOf, menuRead, offers}
 use Rattle.menus.proofs.Joined.{groupFrom, orElse, group-from, group-joined, lone-group}
-use Rattle.menus.proofs.Sets.{set-same}
+use Rattle.items.proofs.Sets.{set-same}
 use Rattle.menus.proofs.Reading.{menu-read}
-use Rattle.menus.proofs.Places.{place-octet}
+use Rattle.items.proofs.Places.{place-octet}
 use Rattle.records.specs.declared.Record.{Record}
 use Rattle.octets.specs.Lent.{Outcome, roomFault, put}
 use Rattle.offers.specs.Making.{menuOf, jmOffer, recordFault}

@@ -10,11 +10,11 @@ use lib.Bits.{bitAnd}
 use lib.Dec.{ltb, lit<}
 use Rattle.laws.specs.Choice.{choose, both}
 use Rattle.menus.specs.declared.Offer.{Offer}
-use Rattle.menus.specs.Items.{inSet, hasItem}
+use Rattle.items.specs.Items.{inSet, hasItem}
 use Rattle.menus.specs.Groups.{groupOf}
 use Rattle.menus.specs.Offer.{modulation, offerOf, offers}
-use Rattle.menus.proofs.Bits.{in-both, same-half}
-use Rattle.menus.proofs.Sets.{set-has, none-in}
+use Rattle.items.proofs.Bits.{in-both, same-half}
+use Rattle.items.proofs.Sets.{set-has, none-in}
 use Rattle.menus.proofs.Reading.{menu-read}
 use Rattle.records.specs.declared.Modes.{Modes}
 use Rattle.records.specs.declared.Record.{Record}

@@ -16,10 +16,10 @@ use Rattle.laws.proofs.Computed.{below, both-left, both-right}
 use Rattle.octets.specs.declared.Refusal.the-variants.{NotOffered}
 use Rattle.octets.specs.Refusals.{number}
 use Rattle.menus.specs.declared.Offer.{Offer}
-use Rattle.menus.specs.Items.{inSet}
+use Rattle.items.specs.Items.{inSet}
 use Rattle.menus.specs.Offer.{offerOf, menuRead, Read}
-use Rattle.menus.proofs.Bits.{in-both}
-use Rattle.menus.proofs.Sets.{none-in}
+use Rattle.items.proofs.Bits.{in-both}
+use Rattle.items.proofs.Sets.{none-in}
 use Rattle.records.specs.declared.Modes.{Modes}
 use Rattle.records.specs.declared.Record.{Record}
 use Rattle.records.specs.Record.{flag, noModes, inUse}

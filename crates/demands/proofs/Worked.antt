@@ -6,7 +6,7 @@ use Rattle.laws.specs.Tests.{every, sameList}
 use Rattle.octets.specs.Lists.{firstFault, untilCategory}
 use Rattle.sequences.specs.Line.{framed, framedAll, sequence, copies}
 use Rattle.octets.specs.Lent.{put}
-use Rattle.menus.specs.Items.{places, placeOf, hasItem, setOf, inSet, itemBits, modulationOctet}
+use Rattle.items.specs.Items.{places, placeOf, hasItem, setOf, inSet, itemBits, modulationOctet}
 use Rattle.menus.specs.Groups.{firstGroup, frontPart, groupOf}
 use Rattle.menus.specs.Offer.{menuRead}
 use Rattle.records.specs.Record.{modesAt, anyBad, badRecord}

@@ -10,7 +10,7 @@ use Rattle.octets.specs.declared.Kind.the-variants.{Menu}
 use Rattle.octets.specs.declared.Purpose.the-variants.{Reading, Writing}
 use Rattle.octets.specs.Lists.{listFault}
 use Rattle.menus.specs.declared.Offer.{Offer}
-use Rattle.menus.specs.Items.{inSet, hasItem}
+use Rattle.items.specs.Items.{inSet, hasItem}
 use Rattle.menus.specs.Groups.{groupOf}
 use Rattle.menus.specs.Offer.{modulation, offerOf, offers, menuRead}
 use Rattle.records.specs.declared.Record.{Record}

@@ -5,7 +5,7 @@ use mathlib.Core.Bool.{true}
 use Rattle.octets.specs.declared.Refusal.the-variants.{NotOffered}
 use Rattle.octets.specs.Refusals.{number}
 use Rattle.menus.specs.declared.Offer.{Offer}
-use Rattle.menus.specs.Items.{inSet}
+use Rattle.items.specs.Items.{inSet}
 use Rattle.offers.specs.Making.{analogue, digital, v91}
 use Rattle.choices.specs.Choosing.{Chosen, none, item, pcm, refusal}
 

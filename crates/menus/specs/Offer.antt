@@ -12,7 +12,7 @@ use Rattle.octets.specs.Lists.{listFault}
 use Rattle.menus.specs.declared.Offer.{Offer}
 use Rattle.menus.specs.declared.Menu.{Menu}
 use Rattle.menus.specs.declared.Menu.the-variants.{Offers, Refused}
-use Rattle.menus.specs.Items.{itemsOf}
+use Rattle.items.specs.Items.{itemsOf}
 use Rattle.menus.specs.Groups.{groupOf, optionsIn}
 
 -- the table of tags

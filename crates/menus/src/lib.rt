@@ -1,27 +1,13 @@
-// Menus: where items stand, looking for a group, its part of the message, and what a menu offers.
+// Menus: looking for a group, its part of the message, and what a menu offers.
 use octets::Purpose;
 use octets::Refusal;
 use octets::Verdict;
 ghost use mathlib.Core.Path.{_≡_};
-ghost use Prim.Native.Nat.{_+_, _*_, _/_, _%_, _<_, _≤_};
-ghost use lib.Dec.{eqb};
-ghost use lib.ListN.{length, take, drop, getD};
-ghost use Rattle.laws.specs.Choice.{choose};
+ghost use Prim.Native.Nat.{_+_, _≤_};
+ghost use lib.ListN.{length, drop};
 ghost use Rattle.octets.specs.Lists.{untilCategory};
-ghost use Rattle.menus.specs.Items.{placeOf, bitOf, hasItem, itemsOf, inSet, modulationOctet};
 ghost use Rattle.menus.specs.Offer.{pcmCounted, offerOf, saysRead, menuRead};
 ghost use Rattle.menus.specs.Groups.{says, saysSpot, opensGroup, firstGroup, looked, partAt, groupOf, optionsIn};
-
-// An item of the modulation group, and a bit of an octet: one cannot be passed where the other belongs.
-pub struct Item(pub u8);
-
-pub struct Bit(pub u8);
-
-// Where an item stands in the modulation group: in which of its octets, and in which bit of that.
-pub struct ItemPlace {
-    pub octet: u8,
-    pub bit: Bit,
-}
 
 // Where a group stands in a message that can be read.
 enum Spot {
@@ -51,40 +37,6 @@ pub struct Offer {
 pub enum Menu {
     Offers(Offer),
     Refused(Refusal),
-}
-
-// The places of items 0 to 12: 8 for each octet before it, and the bit.
-const PLACES: [u8; 13] = [5, 6, 7, 8, 9, 10, 14, 15, 16, 17, 18, 22, 23];
-
-fn place_of(item: Item) -> ItemPlace
-    requires { ⌜ item .0 < 13 ⌝ }
-    ensures { λ r. ⌜ r ≡ placeOf (item .0) ⌝ }
-{
-    let i = item.0 as usize;
-    let place = PLACES[i];
-    ItemPlace {
-        octet: place / 8,
-        bit: Bit(place % 8),
-    }
-}
-
-fn has_bit(b: u8, bit: Bit) -> bool
-    requires { ⌜ bit .0 < 8 ⌝ }
-    ensures { λ r. ⌜ r ≡ eqb (bitOf (bit .0) b) 1 ⌝ }
-{
-    (b >> bit.0) % 2 == 1
-}
-
-fn has_item(group: &[u8], item: Item) -> bool
-    requires { ⌜ item .0 < 13 ⌝ }
-    ensures { λ r. ⌜ r ≡ hasItem (now (group .entry)) (item .0) ⌝ }
-{
-    let place = place_of(item);
-    let at = place.octet as usize;
-    if at < group.len() {
-        return has_bit(group[at], place.bit);
-    }
-    false
 }
 
 // A category octet with this tag.
@@ -160,64 +112,6 @@ pub fn part(octets: &[u8], place: usize) -> &[u8]
     &octets[0..0]
 }
 
-fn with_item(set: u16, weight: u16, there: bool) -> u16
-    requires { ⌜ (set < weight) × (weight ≤ 8192) ⌝ }
-    ensures { λ r. ⌜ r ≡ set + choose there weight 0 ⌝ }
-{
-    if there {
-        return set + weight;
-    }
-    set
-}
-
-// The items of a modulation group, bit i for item i; those past a short group are absent.
-fn items_in(group: &[u8]) -> u16
-    ensures { λ r. ⌜ r ≡ itemsOf (now (group .entry)) ⌝ }
-{
-    let mut set: u16 = 0;
-    let mut weight: u16 = 1;
-    let mut i: u8 = 0;
-    while i < 13 {
-        set = with_item(set, weight, has_item(group, Item(i)));
-        weight *= 2;
-        i += 1;
-    }
-    set
-}
-
-// Whether an item is in a set; none above 15 is.
-pub fn in_set(items: u16, item: Item) -> bool
-    ensures { λ r. ⌜ r ≡ inSet items (item .0) ⌝ }
-{
-    if item.0 < 16 {
-        return (items >> item.0) % 2 == 1;
-    }
-    false
-}
-
-// An extension octet with its five bits for items: b0, b1, b2, b6, b7.
-fn extension_octet(five: u16) -> u8
-    ensures { λ r. ⌜ r ≡ 16 + five % 8 + 64 * (five / 8 % 4) ⌝ }
-{
-    (16 + five % 8 + 64 * (five / 8 % 4)) as u8
-}
-
-// An octet of the modulation group that says these items.
-pub fn modulation_octet(items: u16, octet: u8) -> u8
-    ensures { λ r. ⌜ r ≡ modulationOctet items octet ⌝ }
-{
-    if octet == 0 {
-        return (5 + 32 * (items % 8)) as u8;
-    }
-    if octet == 1 {
-        return extension_octet(items / 8);
-    }
-    if octet == 2 {
-        return extension_octet(items / 256);
-    }
-    16
-}
-
 // The options of a group, 0 where it is missing.
 pub fn options_in(group: &[u8]) -> u8
     ensures { λ r. ⌜ r ≡ optionsIn (now (group .entry)) ⌝ }
@@ -254,7 +148,7 @@ fn read_offer(octets: &[u8]) -> Offer
     let access = group_of(octets, 13);
     Offer {
         function: options_in(octets),
-        items: items_in(group_of(octets, 5)),
+        items: items::items_in(group_of(octets, 5)),
         pcm: counted(access, group_of(octets, 7)),
         lapm: options_in(group_of(octets, 10)) == 1,
         access: 0 < access.len(),

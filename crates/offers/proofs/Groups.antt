@@ -12,9 +12,9 @@ use Rattle.laws.specs.Tests.{every}
 use Rattle.octets.specs.Octets.{b3, b4, b5, category, tag, options, extension}
 use Rattle.octets.specs.Lists.{groupEnds}
 use Rattle.octets.proofs.Lists.{group-starts}
-use Rattle.menus.specs.Items.{modulationOctet}
+use Rattle.items.specs.Items.{modulationOctet}
 use Rattle.menus.specs.Groups.{opensGroup}
-use Rattle.menus.proofs.Places.{octet-0, octet-1, octet-2}
+use Rattle.items.proofs.Places.{octet-0, octet-1, octet-2}
 use Rattle.menus.proofs.Joined.{groupFrom, orElse, group-joined, lone-group}
 use Rattle.offers.specs.Making.{categoryOctet, oneOctet, modulationGroup, joined}
 

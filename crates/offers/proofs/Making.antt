@@ -11,7 +11,7 @@ use lib.Dec.{ltb, lit<}
 use lib.Seq.{take-nil}
 use Rattle.laws.specs.Choice.{choose}
 use Rattle.laws.proofs.Chosen.{chosen, clash}
-use Rattle.menus.specs.Items.{inSet}
+use Rattle.items.specs.Items.{inSet}
 use Rattle.records.specs.declared.Modes.{Modes}
 use Rattle.records.specs.declared.Record.{Record}
 use Rattle.records.specs.Record.{flag, inUse, badRecord}

@@ -19,8 +19,8 @@ use Rattle.octets.specs.Lists.{before, categoryFault, octetFault, firstFault, o
 use Rattle.octets.proofs.Lists.{faultless}
 use Rattle.octets.proofs.Fine.{group-fine, accepted-by}
 use Rattle.menus.specs.declared.Offer.{Offer}
-use Rattle.menus.specs.Items.{itemsOf, modulationOctet}
-use Rattle.menus.proofs.Places.{octet-0, items-back}
+use Rattle.items.specs.Items.{itemsOf, modulationOctet}
+use Rattle.items.proofs.Places.{octet-0, items-back}
 use Rattle.menus.specs.Groups.{groupOf, optionsIn}
 use Rattle.menus.specs.Offer.{modulation, pcmTag, protocol, access, stands, offerOf}
 use Rattle.menus.proofs.Joined.{orElse, group-from}

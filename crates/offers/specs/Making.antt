@@ -10,7 +10,7 @@ use Rattle.octets.specs.declared.Purpose.the-variants.{Reading}
 use Rattle.octets.specs.Lists.{before, listFault}
 use Rattle.octets.specs.Lent.{Outcome, roomFault, put}
 use Rattle.menus.specs.declared.Offer.{Offer}
-use Rattle.menus.specs.Items.{inSet, modulationOctet}
+use Rattle.items.specs.Items.{inSet, modulationOctet}
 use Rattle.menus.specs.Groups.{optionsIn}
 use Rattle.menus.specs.Offer.{pcmTag, protocol, access, offerOf}
 use Rattle.records.specs.declared.Modes.{Modes}

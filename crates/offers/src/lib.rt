@@ -1,5 +1,5 @@
 // Offers: the menus we make, CM and JM, and the call function octet.
-use menus::Item;
+use items::Item;
 use menus::Menu;
 use menus::Offer;
 use octets::Purpose;
@@ -145,7 +145,7 @@ fn jm_offer(own: Record, cm: Offer, modes: Modes) -> Offer
 {
     let shared = modes.items & cm.items;
     let pcm = with_item_1(
-        menus::in_set(shared, Item(1)),
+        items::in_set(shared, Item(1)),
         paired_options(cm.pcm, modes.pcm),
     );
     let caller = cm.access_options % 2;
@@ -181,9 +181,9 @@ fn write_modulation(out: &mut [u8], items: u16) -> usize
     requires { ⌜ 3 ≤ length (now out) ⌝ }
     ensures { λ r. ⌜ WritesGroup (modulationGroup items) (now (out .entry)) r (now (out .exit)) ⌝ }
 {
-    out[0] = menus::modulation_octet(items, 0);
-    out[1] = menus::modulation_octet(items, 1);
-    out[2] = menus::modulation_octet(items, 2);
+    out[0] = items::modulation_octet(items, 0);
+    out[1] = items::modulation_octet(items, 1);
+    out[2] = items::modulation_octet(items, 2);
     3
 }
 

@@ -5,9 +5,9 @@ use mathlib.Core.List.{List, [], _∷_}
 use lib.Dec.{eqb}
 use lib.ListN.{getD}
 use Rattle.laws.specs.Choice.{choose}
-use Rattle.menus.specs.declared.Bit.{Bit}
-use Rattle.menus.specs.declared.Item.{Item}
-use Rattle.menus.specs.declared.ItemPlace.{ItemPlace}
+use Rattle.items.specs.declared.Bit.{Bit}
+use Rattle.items.specs.declared.Item.{Item}
+use Rattle.items.specs.declared.ItemPlace.{ItemPlace}
 
 abbrev at : ℕ → ℕ → ItemPlace
 at octet bit = record { octet = octet; bit = record { 0 = bit } }

@@ -1,8 +1,8 @@
 use native.Mathlib.Omega.{arith}
 use Rattle.laws.specs.Choice.{choose}
 use borrow.Author.Needs.{needs}
-use Rattle.menus.proofs.with_item.Statement.{statement}
-use Rattle.menus.proofs.with_item.Tie as tie
+use Rattle.items.proofs.with_item.Statement.{statement}
+use Rattle.items.proofs.with_item.Tie as tie
 
 add-result : tie.Need-add-result
 add-result c = search needs

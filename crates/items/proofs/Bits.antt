@@ -7,7 +7,7 @@ use mathlib.Core.Path.{_≡_, refl, sym, ap, _∙_}
 use lib.Bits.{bitAnd, and-step, block-half, block-odd}
 use lib.Dec.{eqb}
 use Rattle.laws.specs.Choice.{both}
-use Rattle.menus.specs.Items.{bitOf, inSet}
+use Rattle.items.specs.Items.{bitOf, inSet}
 
 -- the first bit, and a later one in half the number
 bit-first : (n : ℕ) → bitOf 0 n ≡ n % 2

@@ -13,8 +13,8 @@ use Rattle.laws.specs.Choice.{choose, both}
 use Rattle.laws.specs.Tests.{allBelow}
 use Rattle.laws.proofs.Chosen.{chosen}
 use Rattle.laws.proofs.Computed.{below}
-use Rattle.menus.specs.Items.{setOf, bitOf, inSet}
-use Rattle.menus.proofs.Bits.{bit-below, bit-at}
+use Rattle.items.specs.Items.{setOf, bitOf, inSet}
+use Rattle.items.proofs.Bits.{bit-below, bit-at}
 
 -- the weights of the items
 pub weight-small : (i : ℕ) → i < 14 → 2 ^ i < 8193

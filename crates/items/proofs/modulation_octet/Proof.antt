@@ -2,10 +2,10 @@ use borrow.Author.Needs.{needs}
 use borrow.Author.Tests.{ne-eqb}
 use mathlib.Core.Path.{sym}
 use Rattle.laws.specs.Choice.{choose}
-use Rattle.menus.specs.Items.{places, placeOf, itemBits, modulationOctet}
-use Rattle.menus.proofs.Places.{octet-0, octet-1, octet-2}
-use Rattle.menus.proofs.modulation_octet.Statement.{statement}
-use Rattle.menus.proofs.modulation_octet.Tie as tie
+use Rattle.items.specs.Items.{places, placeOf, itemBits, modulationOctet}
+use Rattle.items.proofs.Places.{octet-0, octet-1, octet-2}
+use Rattle.items.proofs.modulation_octet.Statement.{statement}
+use Rattle.items.proofs.modulation_octet.Tie as tie
 
 mul-result : tie.Need-mul-result
 mul-result c = search needs

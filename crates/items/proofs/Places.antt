@@ -12,8 +12,8 @@ use lib.ListN.{length, getD, List·getD-eq-default}
 use Rattle.laws.specs.Choice.{choose, both}
 use Rattle.laws.specs.Tests.{allBelow}
 use Rattle.laws.proofs.Computed.{below, both-left, both-right}
-use Rattle.menus.specs.declared.ItemPlace.{ItemPlace}
-use Rattle.menus.specs.Items.{places, placeOf, bitOf, hasItem, setOf, itemsOf, itemBits, modulationOctet}
+use Rattle.items.specs.declared.ItemPlace.{ItemPlace}
+use Rattle.items.specs.Items.{places, placeOf, bitOf, hasItem, setOf, itemsOf, itemBits, modulationOctet}
 
 -- the table of the code: 8 for each octet before it, and the bit
 abbrev pub table : List ℕ
@@ -88,10 +88,43 @@ module _ (items : ℕ) where
   unfolding places placeOf itemBits modulationOctet choose
   octet-2 = simp (sym (div-div-eq-div-mul items 256 2), sym (div-div-eq-div-mul items 256 4), sym (div-div-eq-div-mul items 256 8), sym (div-div-eq-div-mul items 256 16)) (omega (arith, five-bits (items / 256)))
 
--- the items of a set are read from its octets
-abbrev readBack : ℕ → ℕ
-readBack items = itemsOf (modulationOctet items 0 ∷ modulationOctet items 1 ∷ modulationOctet items 2 ∷ [])
+-- the items of a set are read from its octets, octet by octet: three in the first, and five in each other, by the lowest item's weight
+abbrev said : ℕ → ℕ → ℕ → ℕ
+said bit weight b = choose (eqb (bitOf bit b) 1) weight 0
+
+abbrev threeIn : ℕ → ℕ
+threeIn b = said 5 1 b + said 6 2 b + said 7 4 b
+
+abbrev fiveIn : ℕ → ℕ → ℕ
+fiveIn weight b = said 0 weight b + said 1 (2 * weight) b + said 2 (4 * weight) b + said 6 (8 * weight) b + said 7 (16 * weight) b
+
+octet-by-octet : (a b c : ℕ) → itemsOf (a ∷ b ∷ c ∷ []) ≡ threeIn a + fiveIn 8 b + fiveIn 256 c
+unfolding places placeOf hasItem setOf
+octet-by-octet a b c = omega arith
+
+abbrev fiveBits : ℕ → ℕ
+fiveBits n = 16 + n % 8 + 64 * (n / 8)
+
+three-back : (n : ℕ) → n < 8 → threeIn (5 + 32 * n) ≡ n
+unfolding allBelow both choose
+three-back n h = eqb→eq (threeIn (5 + 32 * n)) n (below (λ (k : ℕ). eqb (threeIn (5 + 32 * k)) k) 8 tt n h)
+
+module _ (n : ℕ) (h : n < 32) where
+  five-back : fiveIn 8 (fiveBits n) ≡ 8 * n
+  unfolding allBelow both choose
+  five-back = eqb→eq (fiveIn 8 (fiveBits n)) (8 * n) (below (λ (k : ℕ). eqb (fiveIn 8 (fiveBits k)) (8 * k)) 32 tt n h)
+
+  last-back : fiveIn 256 (fiveBits n) ≡ 256 * n
+  unfolding allBelow both choose
+  last-back = eqb→eq (fiveIn 256 (fiveBits n)) (256 * n) (below (λ (k : ℕ). eqb (fiveIn 256 (fiveBits k)) (256 * k)) 32 tt n h)
 
 pub items-back : (items : ℕ) → items < 8192 → itemsOf (modulationOctet items 0 ∷ modulationOctet items 1 ∷ modulationOctet items 2 ∷ []) ≡ items
-unfolding places placeOf hasItem setOf itemBits modulationOctet allBelow both choose
-items-back items h = eqb→eq (readBack items) items (below (λ (n : ℕ). eqb (readBack n) n) 8192 tt items h)
+items-back items h =
+    let low = items % 8 in
+    let mid = items / 8 % 32 in
+    let high = items / 256 in
+    let first : modulationOctet items 0 ≡ 5 + 32 * low = octet-0 items in
+    let second : modulationOctet items 1 ≡ fiveBits mid = octet-1 items ∙ omega arith in
+    let third : modulationOctet items 2 ≡ fiveBits high = octet-2 items ∙ omega arith in
+    octet-by-octet (modulationOctet items 0) (modulationOctet items 1) (modulationOctet items 2)
+    ∙ rw (first, second, third) (rw (three-back low (omega arith), five-back mid (omega arith), last-back high (omega arith)) (omega (arith, div-div-eq-div-mul items 8 32)))

@@ -5,10 +5,10 @@ use mathlib.Core.Path.{_≡_, refl, ap, _∙_}
 use mathlib.Core.Bool.{Bool}
 use denote.Ref.{now}
 use Rattle.laws.specs.Choice.{choose}
-use Rattle.menus.specs.Items.{hasItem, setOf}
-use Rattle.menus.proofs.Sets.{weight-small, weight-more, set-small, set-more}
-use Rattle.menus.proofs.items_in.Statement.{statement}
-use Rattle.menus.proofs.items_in.Tie as tie
+use Rattle.items.specs.Items.{hasItem, setOf}
+use Rattle.items.proofs.Sets.{weight-small, weight-more, set-small, set-more}
+use Rattle.items.proofs.items_in.Statement.{statement}
+use Rattle.items.proofs.items_in.Tie as tie
 
 abbrev Inv-loop : tie.InvT-loop
 Inv-loop group set₀ weight₀ i₀ set weight i = (i ≤ 13) × (weight ≡ 2 ^ i) × (set ≡ setOf (hasItem group) i)

@@ -1,10 +1,10 @@
 use mathlib.Core.Path.{sym}
 use denote.Ref.{now}
-use Rattle.menus.specs.Items.{hasItem}
-use Rattle.menus.proofs.Places.{place-bit, item-past}
+use Rattle.items.specs.Items.{hasItem}
+use Rattle.items.proofs.Places.{place-bit, item-past}
 use borrow.Author.Needs.{needs}
-use Rattle.menus.proofs.has_item.Statement.{statement}
-use Rattle.menus.proofs.has_item.Tie as tie
+use Rattle.items.proofs.has_item.Statement.{statement}
+use Rattle.items.proofs.has_item.Tie as tie
 
 place-of-requires : tie.Need-place-of-requires
 place-of-requires c κs = search needs

@@ -1,7 +1,7 @@
-use Rattle.menus.proofs.Places.{place-at}
+use Rattle.items.proofs.Places.{place-at}
 use borrow.Author.Needs.{needs}
-use Rattle.menus.proofs.place_of.Statement.{statement}
-use Rattle.menus.proofs.place_of.Tie as tie
+use Rattle.items.proofs.place_of.Statement.{statement}
+use Rattle.items.proofs.place_of.Tie as tie
 
 cast-i : tie.Need-cast-i
 cast-i c = search needs

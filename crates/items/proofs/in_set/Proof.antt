@@ -1,9 +1,9 @@
 use borrow.Author.Needs.{needs}
 use mathlib.Core.Path.{refl, sym}
-use Rattle.menus.specs.Items.{inSet}
-use Rattle.menus.proofs.Sets.{past-set}
-use Rattle.menus.proofs.in_set.Statement.{statement}
-use Rattle.menus.proofs.in_set.Tie as tie
+use Rattle.items.specs.Items.{inSet}
+use Rattle.items.proofs.Sets.{past-set}
+use Rattle.items.proofs.in_set.Statement.{statement}
+use Rattle.items.proofs.in_set.Tie as tie
 
 cast-result : tie.Need-cast-result
 cast-result c = search needs

@@ -1,0 +1,3 @@
+pub mod Places
+pub mod Bits
+pub mod Sets
