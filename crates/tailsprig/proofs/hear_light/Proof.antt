@@ -1,11 +1,8 @@
-use mathlib.Core.Path.{ap, _∙_}
-use Rattle.listening.specs.declared.Stepped.{Stepped}
-use Rattle.listening.specs.Parts.{touches, lightlyTold}
-use Rattle.codes.specs.Hearing.{toldCode}
-use Rattle.tailsprig.proofs.Parts.{same-light}
+use mathlib.Core.Path.{_∙_}
+use Rattle.listening.specs.Parts.{glanced}
+use Rattle.tailsprig.proofs.Parts.{light-by}
 use Rattle.listening.proofs.Parts.{glanced-told}
 use Rattle.codes.proofs.Codes.{read-answer}
-use Rattle.laws.specs.Choice.{choose}
 use borrow.Author.Needs.{needs}
 use Rattle.tailsprig.proofs.hear_light.Statement.{statement}
 use Rattle.tailsprig.proofs.hear_light.Tie as tie
@@ -24,10 +21,10 @@ light-code-requires c κs =
 
 returns : tie.Need-returns
 returns c =
-    let glance = c .before .before .before .glance .ensures in
-    same-light _ _ _ _ _ _ _ _ (ap (λ (s : Stepped). s .ear) glance) (ap (λ (s : Stepped). s .act) glance)
-    (c .before .touches-messages .ensures ∙ ap (λ (s : Stepped). touches (s .act)) glance)
-    (read-answer (c .light-code .result) (c .light-code .ok) ∙ c .light-code .ensures ∙ ap (λ (s : Stepped). toldCode (lightlyTold (s .act))) glance)
+    let g = c .before .before .before in
+    let a = g .before .args in
+    light-by (g .glance .result) (glanced (a .ear) (a .kind) (a .len) (a .last-kind) (a .last-len) (a .bit)) (c .before .touches-messages .result) _ (g .glance .ensures) (c .before .touches-messages .ensures)
+    (read-answer (c .light-code .result) (c .light-code .ok) ∙ c .light-code .ensures)
 
 pub hear-light-spec : {M : Type 1} → statement M
 hear-light-spec =
