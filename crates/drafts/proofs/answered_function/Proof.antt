@@ -1,6 +1,6 @@
 use Rattle.laws.specs.Choice.{choose}
-use Rattle.offers.proofs.answered_function.Statement.{statement}
-use Rattle.offers.proofs.answered_function.Tie as tie
+use Rattle.drafts.proofs.answered_function.Statement.{statement}
+use Rattle.drafts.proofs.answered_function.Tie as tie
 
 returns : tie.Need-returns
 unfolding choose

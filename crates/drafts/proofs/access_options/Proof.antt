@@ -1,7 +1,7 @@
 use Rattle.laws.specs.Choice.{choose}
 use borrow.Author.Needs.{needs}
-use Rattle.offers.proofs.access_options.Statement.{statement}
-use Rattle.offers.proofs.access_options.Tie as tie
+use Rattle.drafts.proofs.access_options.Statement.{statement}
+use Rattle.drafts.proofs.access_options.Tie as tie
 
 mul-result : tie.Need-mul-result
 mul-result c = search needs

@@ -1,7 +1,7 @@
 use borrow.Author.Needs.{needs}
 use Rattle.laws.specs.Choice.{choose}
-use Rattle.offers.proofs.with_item_1.Statement.{statement}
-use Rattle.offers.proofs.with_item_1.Tie as tie
+use Rattle.drafts.proofs.with_item_1.Statement.{statement}
+use Rattle.drafts.proofs.with_item_1.Tie as tie
 
 returns : tie.Need-returns
 unfolding choose

@@ -1,6 +1,6 @@
 use borrow.Author.Needs.{needs}
-use Rattle.offers.proofs.cm_offer.Statement.{statement}
-use Rattle.offers.proofs.cm_offer.Tie as tie
+use Rattle.drafts.proofs.cm_offer.Statement.{statement}
+use Rattle.drafts.proofs.cm_offer.Tie as tie
 
 either-of-requires : tie.Need-either-of-requires
 either-of-requires c κs = search needs

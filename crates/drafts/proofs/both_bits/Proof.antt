@@ -1,7 +1,7 @@
 use mathlib.Core.Path.{_≡_}
 use native.Mathlib.Omega.{arith}
-use Rattle.offers.proofs.both_bits.Statement.{statement}
-use Rattle.offers.proofs.both_bits.Tie as tie
+use Rattle.drafts.proofs.both_bits.Statement.{statement}
+use Rattle.drafts.proofs.both_bits.Tie as tie
 
 returns : tie.Need-returns
 returns c = (simp (c .if1 .taken) (omega arith), c .before .pre .1)

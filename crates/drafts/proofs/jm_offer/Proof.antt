@@ -1,6 +1,6 @@
 use borrow.Author.Needs.{needs}
-use Rattle.offers.proofs.jm_offer.Statement.{statement}
-use Rattle.offers.proofs.jm_offer.Tie as tie
+use Rattle.drafts.proofs.jm_offer.Statement.{statement}
+use Rattle.drafts.proofs.jm_offer.Tie as tie
 
 in-set-requires : tie.Need-in-set-requires
 in-set-requires c κs = search needs

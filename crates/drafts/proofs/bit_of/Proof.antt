@@ -1,7 +1,7 @@
 use native.Mathlib.Omega.{arith}
 use Rattle.laws.specs.Choice.{choose}
-use Rattle.offers.proofs.bit_of.Statement.{statement}
-use Rattle.offers.proofs.bit_of.Tie as tie
+use Rattle.drafts.proofs.bit_of.Statement.{statement}
+use Rattle.drafts.proofs.bit_of.Tie as tie
 
 returns : tie.Need-returns
 unfolding choose

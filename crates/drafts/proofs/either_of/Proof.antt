@@ -1,6 +1,6 @@
 use Rattle.laws.specs.Choice.{either}
-use Rattle.offers.proofs.either_of.Statement.{statement}
-use Rattle.offers.proofs.either_of.Tie as tie
+use Rattle.drafts.proofs.either_of.Statement.{statement}
+use Rattle.drafts.proofs.either_of.Tie as tie
 
 returns : tie.Need-returns
 unfolding either

@@ -1,6 +1,6 @@
 use Rattle.laws.specs.Choice.{both}
-use Rattle.offers.proofs.both_of.Statement.{statement}
-use Rattle.offers.proofs.both_of.Tie as tie
+use Rattle.drafts.proofs.both_of.Statement.{statement}
+use Rattle.drafts.proofs.both_of.Tie as tie
 
 returns : tie.Need-returns
 unfolding both

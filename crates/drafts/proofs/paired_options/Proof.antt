@@ -1,7 +1,7 @@
-use Rattle.offers.specs.Making.{paired}
+use Rattle.drafts.specs.Drafts.{paired}
 use borrow.Author.Needs.{needs}
-use Rattle.offers.proofs.paired_options.Statement.{statement}
-use Rattle.offers.proofs.paired_options.Tie as tie
+use Rattle.drafts.proofs.paired_options.Statement.{statement}
+use Rattle.drafts.proofs.paired_options.Tie as tie
 
 both-bits-requires : tie.Need-both-bits-requires
 both-bits-requires c κs = search needs
