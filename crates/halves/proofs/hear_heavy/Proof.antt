@@ -1,11 +1,10 @@
 use mathlib.Core.Path.{ap, _∙_}
 use Rattle.codes.specs.Hearing.{toldCode}
-use Rattle.tailsprig.proofs.Parts.{same-heavy}
+use Rattle.halves.proofs.Halves.{same-heavy}
 use Rattle.codes.proofs.Codes.{read-answer}
-use Rattle.laws.specs.Choice.{choose}
 use borrow.Author.Needs.{needs}
-use Rattle.tailsprig.proofs.hear_heavy.Statement.{statement}
-use Rattle.tailsprig.proofs.hear_heavy.Tie as tie
+use Rattle.halves.proofs.hear_heavy.Statement.{statement}
+use Rattle.halves.proofs.hear_heavy.Tie as tie
 
 settle-requires : tie.Need-settle-requires
 settle-requires c κs = search needs

@@ -1,7 +1,7 @@
 use borrow.Author.Tests.{lt-ltb, le-ltb}
 use Rattle.laws.specs.Choice.{both}
-use Rattle.tailsprig.proofs.touches_messages.Statement.{statement}
-use Rattle.tailsprig.proofs.touches_messages.Tie as tie
+use Rattle.halves.proofs.touches_messages.Statement.{statement}
+use Rattle.halves.proofs.touches_messages.Tie as tie
 
 returns : tie.Need-returns
 unfolding both

@@ -6,8 +6,8 @@ use Rattle.codes.proofs.Codes.{negated-is, negated-fits}
 use borrow.Author.Tests.{lt-ltb, le-ltb, eq-eqb, ne-eqb}
 use Rattle.laws.specs.Choice.{choose}
 use borrow.Author.Needs.{needs}
-use Rattle.tailsprig.proofs.light_code.Statement.{statement}
-use Rattle.tailsprig.proofs.light_code.Tie as tie
+use Rattle.halves.proofs.light_code.Statement.{statement}
+use Rattle.halves.proofs.light_code.Tie as tie
 
 small : (c : tie.Else2) → c .before .before .args .act - 16 < 2 ^ 31
 small c = omega (arith, c .before .before .pre .most)

@@ -1,11 +1,11 @@
 use mathlib.Core.Path.{_∙_}
 use Rattle.listening.specs.Parts.{glanced}
-use Rattle.tailsprig.proofs.Parts.{light-by}
+use Rattle.halves.proofs.Halves.{light-by}
 use Rattle.listening.proofs.Parts.{glanced-told}
 use Rattle.codes.proofs.Codes.{read-answer}
 use borrow.Author.Needs.{needs}
-use Rattle.tailsprig.proofs.hear_light.Statement.{statement}
-use Rattle.tailsprig.proofs.hear_light.Tie as tie
+use Rattle.halves.proofs.hear_light.Statement.{statement}
+use Rattle.halves.proofs.hear_light.Tie as tie
 
 glance-requires : tie.Need-glance-requires
 glance-requires c κs = search needs
