@@ -10,7 +10,7 @@ use Rattle.menus.specs.declared.Offer.{Offer}
 use Rattle.items.specs.Items.{inSet}
 use Rattle.menus.specs.Offer.{Read, menuRead}
 use Rattle.menus.specs.Offer as read
-use Rattle.offers.specs.Making.{paired}
+use Rattle.drafts.specs.Drafts.{paired}
 use Rattle.choices.specs.declared.Choice.{Choice}
 use Rattle.choices.specs.declared.Choice.the-variants.{Nothing, Mode, Pcm, Refused}
 

@@ -61,7 +61,7 @@ fn choose_from(cm: Offer, jm: Offer) -> Choice
 {
     let same_function = cm.function == jm.function;
     if 0 < jm.pcm {
-        return choose_pcm(same_function, offers::paired_options(cm.pcm, jm.pcm));
+        return choose_pcm(same_function, drafts::paired_options(cm.pcm, jm.pcm));
     }
     choose_item(same_function, cm.items, lowest_item(jm.items))
 }

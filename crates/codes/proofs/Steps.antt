@@ -1,6 +1,6 @@
 -- What an event carries, by its tests.
 -- Assumes nothing.
-use Prim.Native.Nat.{ℕ, _<_, _^_}
+use Prim.Native.Nat.{_<_, _^_}
 use native.Mathlib.Omega.{arith}
 use mathlib.Core.Path.{_≡_, sym, ap, _∙_}
 use mathlib.Core.Bool.{Bool, true, false}
@@ -11,11 +11,9 @@ use lib.Signed.{mag, ltZ, nonNeg}
 use mir.Syntax.{w8, w32}
 use mir.Val.{Fits, toZ, ofZ}
 use Rattle.laws.specs.Choice.{choose}
+use Rattle.laws.proofs.Chosen.{clash}
 use Rattle.codes.specs.Steps.{carriedOf}
 use Rattle.codes.proofs.Codes.{read-answer}
-
-clash : false ≡ true → ⊥
-clash e = let z : _≡_ {A = ℕ} 0 1 = cc in omega arith
 
 -- a test of a number as C passes it is one of the number
 pub test-of : (v limit : ℤ) (t : Bool) → mag v < 2 ^ 31 → ltZ (toZ w32 (ofZ w32 v)) limit ≡ t → ltZ v limit ≡ t
@@ -33,14 +31,14 @@ carried-below (negsuc n) l h = simp (ne-eqb n 10 (λ e. h (ap negsuc e)))
 pub carried-in : (v : ℤ) → ltZ v (pos 0) ≡ false → ltZ v (pos 24) ≡ true → natAbs v ≡ carriedOf v
 unfolding choose
 carried-in (pos n) l h = simp h
-carried-in (negsuc n) l h = absurd (clash (sym l))
+carried-in (negsuc n) l h = clash l
 
 -- and fits a byte
 pub carried-fits : (v : ℤ) → ltZ v (pos 0) ≡ false → ltZ v (pos 24) ≡ true → T (nonNeg v) × Fits w8 (natAbs v)
 carried-fits (pos n) l h = (tt, record { fits = omega (arith, ltb-true n 24 h) })
-carried-fits (negsuc n) l h = absurd (clash (sym l))
+carried-fits (negsuc n) l h = clash l
 
 pub carried-above : (v : ℤ) → ltZ v (pos 24) ≡ false → 255 ≡ carriedOf v
 unfolding choose
 carried-above (pos n) h = simp h
-carried-above (negsuc n) h = absurd (clash (sym h))
+carried-above (negsuc n) h = clash h

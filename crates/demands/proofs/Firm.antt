@@ -24,7 +24,7 @@ use Rattle.items.specs.Items.{places, placeOf, hasItem, setOf, inSet}
 use Rattle.menus.specs.Groups.{firstGroup, frontPart, groupOf}
 use Rattle.menus.specs.Offer.{Read, offers, menuRead}
 use Rattle.menus.specs.Offer as menus
-use Rattle.offers.specs.Making.{paired}
+use Rattle.drafts.specs.Drafts.{paired}
 use Rattle.choices.specs.Choosing.{Chosen, none, item, lowestFrom, pcmChoice, itemChoice, chosenFrom, choiceOf}
 use Rattle.demands.proofs.Settled.{kindOf}
 use Rattle.demands.specs.Worked.{cmOfA}

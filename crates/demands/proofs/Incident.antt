@@ -26,7 +26,8 @@ use Rattle.menus.proofs.Reading.{menu-read}
 use Rattle.items.proofs.Places.{place-octet}
 use Rattle.records.specs.declared.Record.{Record}
 use Rattle.octets.specs.Lent.{Outcome, roomFault, put}
-use Rattle.offers.specs.Making.{menuOf, jmOffer, recordFault}
+use Rattle.drafts.specs.Drafts.{jmOffer}
+use Rattle.offers.specs.Making.{menuOf, recordFault}
 use Rattle.choices.specs.Choosing.{onRead, choiceFor, chosenFrom}
 use Rattle.offers.proofs.Meaning.{same-offer}
 use Rattle.demands.specs.Incident.{unknownTag, IsGroup, Undefined, group, surplus, Extended, Ignored}

@@ -20,7 +20,7 @@ use Rattle.records.specs.declared.Modes.{Modes}
 use Rattle.records.specs.declared.Record.{Record}
 use Rattle.records.specs.Record.{flag, noModes, inUse}
 use Rattle.records.proofs.Good.{none-used}
-use Rattle.offers.specs.Making.{bit, withItem0, cmOffer, analogue, digital, v91, paired, withItem1, sharedItems, jmPcm, jmOffer}
+use Rattle.drafts.specs.Drafts.{bit, withItem0, cmOffer, analogue, digital, v91, paired, withItem1, sharedItems, jmPcm, jmOffer}
 use Rattle.offers.proofs.Making.{bit-small}
 use Rattle.offers.proofs.Meaning.{menu-readable, menu-writable, read-back}
 use Rattle.offers.proofs.Saying.{cm-sayable, jm-sayable}

@@ -24,7 +24,7 @@ use Rattle.records.specs.declared.Modes.{Modes}
 use Rattle.records.specs.declared.Record.{Record}
 use Rattle.records.specs.Record.{flag, noModes, inUse}
 use Rattle.records.proofs.Good.{good-modes, none-used}
-use Rattle.offers.specs.Making.{cmOffer, paired, withItem1, sharedItems, jmPcm, jmOffer}
+use Rattle.drafts.specs.Drafts.{cmOffer, paired, withItem1, sharedItems, jmPcm, jmOffer}
 use Rattle.choices.specs.Choosing.{Chosen, none, item, pcm, refusal, lowest, lowestFrom, pcmChoice, itemChoice, chosenFrom, onRead, choiceFor, choiceOf}
 use Rattle.offers.proofs.Making.{jm-says}
 use Rattle.demands.specs.Joint.{Accepted, cmOf, jmOf, hasFor, pcmFor, Call, NothingShared, callerNames, answererNames, Settled}

@@ -9,7 +9,7 @@ use lib.Dec.{eqb}
 use Rattle.laws.proofs.Chosen.{chosen, both-true}
 use Rattle.menus.specs.declared.Offer.{Offer}
 use Rattle.items.specs.Items.{inSet}
-use Rattle.offers.specs.Making.{analogue, digital, v91, paired}
+use Rattle.drafts.specs.Drafts.{analogue, digital, v91, paired}
 use Rattle.choices.specs.Choosing.{lowest, lowestFrom, pcmChoice, itemChoice, chosenFrom}
 use Rattle.demands.specs.Shared.{Shared}
 

@@ -10,7 +10,8 @@ use Rattle.items.specs.Items.{places, placeOf, hasItem, setOf, inSet, itemBits,
 use Rattle.menus.specs.Groups.{firstGroup, frontPart, groupOf}
 use Rattle.menus.specs.Offer.{menuRead}
 use Rattle.records.specs.Record.{modesAt, anyBad, badRecord}
-use Rattle.offers.specs.Making.{modulationGroup, joined, paired}
+use Rattle.drafts.specs.Drafts.{paired}
+use Rattle.offers.specs.Making.{modulationGroup, joined}
 use Rattle.choices.specs.Choosing.{lowestFrom, pcmChoice, itemChoice, chosenFrom}
 use Rattle.steps.specs.Table.{rows}
 use Rattle.steps.specs.Session.{inRange}

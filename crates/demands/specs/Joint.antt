@@ -15,7 +15,8 @@ use Rattle.menus.specs.Groups.{groupOf}
 use Rattle.menus.specs.Offer.{modulation, offerOf, offers, menuRead}
 use Rattle.records.specs.declared.Record.{Record}
 use Rattle.records.specs.Record.{flag, inUse, badRecord}
-use Rattle.offers.specs.Making.{menuOf, bit, cmOffer, analogue, digital, v91, paired, jmOffer}
+use Rattle.drafts.specs.Drafts.{bit, cmOffer, analogue, digital, v91, paired, jmOffer}
+use Rattle.offers.specs.Making.{menuOf}
 use Rattle.choices.specs.Choosing.{Chosen, none, refusal, choiceOf}
 
 -- a record of six functions that is accepted

@@ -6,7 +6,7 @@ use Rattle.octets.specs.declared.Refusal.the-variants.{NotOffered}
 use Rattle.octets.specs.Refusals.{number}
 use Rattle.menus.specs.declared.Offer.{Offer}
 use Rattle.items.specs.Items.{inSet}
-use Rattle.offers.specs.Making.{analogue, digital, v91}
+use Rattle.drafts.specs.Drafts.{analogue, digital, v91}
 use Rattle.choices.specs.Choosing.{Chosen, none, item, pcm, refusal}
 
 -- never "Item 0 chosen as the best mode": an item from 1 to 12 that both menus have for the same function

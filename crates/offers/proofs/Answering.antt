@@ -18,7 +18,8 @@ use Rattle.menus.specs.Offer.{offerOf}
 use Rattle.records.specs.declared.Record.{Record}
 use Rattle.records.specs.Record.{flag, inUse, badRecord}
 use Rattle.offers.specs.declared.Source.the-variants.{Heard, Own}
-use Rattle.offers.specs.Making.{categoryOctet, joined, menuOf, cmOffer, jmFunction, readable, sourceOf, firstOctetOf, callFunction}
+use Rattle.drafts.specs.Drafts.{cmOffer, jmFunction}
+use Rattle.offers.specs.Making.{categoryOctet, joined, menuOf, readable, sourceOf, firstOctetOf, callFunction}
 use Rattle.offers.proofs.Meaning.{menu-readable}
 
 -- the first octet of a menu that can be read says its function

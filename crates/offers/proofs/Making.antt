@@ -18,7 +18,8 @@ use Rattle.records.specs.Record.{flag, inUse, badRecord}
 use Rattle.records.proofs.Good.{good-modes}
 use Rattle.menus.specs.declared.Offer.{Offer}
 use Rattle.menus.specs.Offer.{pcmTag, protocol, access}
-use Rattle.offers.specs.Making.{categoryOctet, oneOctet, modulationGroup, groupsOf, joined, menuOf, bit, accessOptions, cmAccess, cmOffer, analogue, digital, v91, paired, sharedItems, jmPcm, jmAccess, jmFunction, jmOffer, recordFault, functionFault}
+use Rattle.drafts.specs.Drafts.{bit, accessOptions, cmAccess, cmOffer, analogue, digital, v91, paired, sharedItems, jmPcm, jmAccess, jmFunction, jmOffer}
+use Rattle.offers.specs.Making.{categoryOctet, oneOctet, modulationGroup, groupsOf, joined, menuOf, recordFault, functionFault}
 use Rattle.offers.specs.Parts.{WritesGroup, Says}
 
 pub one-there : (there : Bool) (octet : ℕ) (out : List ℕ) → there ≡ true → length (oneOctet there octet) ≤ length out → 0 < length out

@@ -15,7 +15,7 @@ use Rattle.menus.specs.declared.Offer.{Offer}
 use Rattle.records.specs.declared.Record.{Record}
 use Rattle.records.specs.Record.{flag, inUse, badRecord}
 use Rattle.records.proofs.Good.{good-home, good-modes, available-within}
-use Rattle.offers.specs.Making.{bit, withItem0, accessOptions, cmAccess, cmOffer, sharedItems, jmPcm, jmAccess, jmOffer}
+use Rattle.drafts.specs.Drafts.{bit, withItem0, accessOptions, cmAccess, cmOffer, sharedItems, jmPcm, jmAccess, jmOffer}
 use Rattle.offers.proofs.Making.{bit-small, cm-says, jm-says}
 use Rattle.offers.proofs.Meaning.{Sayable}
 

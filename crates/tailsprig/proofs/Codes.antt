@@ -23,7 +23,8 @@ use Rattle.sequences.specs.Writing.{written, writtenCj}
 use Rattle.sequences.proofs.Lines.{line-length, line-small, cj-length}
 use Rattle.menus.specs.Offer.{offerOf}
 use Rattle.records.specs.declared.Record.{Record}
-use Rattle.offers.specs.Making.{cmOffer, jmOffer, madeCm, madeJm}
+use Rattle.drafts.specs.Drafts.{cmOffer, jmOffer}
+use Rattle.offers.specs.Making.{madeCm, madeJm}
 use Rattle.offers.proofs.Making.{menu-short}
 use Rattle.codes.proofs.Codes.{read-answer}
 use Rattle.tailsprig.specs.Codes.{code, Small, Returns}

@@ -5,23 +5,14 @@ use mathlib.Core.Path.{_≡_, refl, sym, ap, _∙_}
 use mathlib.Core.Bool.{Bool, true, false}
 use lib.IntN.{ℤ}
 use Rattle.laws.specs.Choice.{choose}
-use Rattle.listening.specs.declared.Ear.{Ear}
 use Rattle.listening.specs.declared.Listener.{Listener}
 use Rattle.listening.specs.Hearing.{Outcome, Many, heard}
-use Rattle.listening.specs.Parts.{glanced, settled, touches, lightlyTold, withEar, inParts}
+use Rattle.listening.specs.Parts.{glanced, settled, touches, lightlyTold, withEar}
 use Rattle.listening.proofs.Parts.{parts-heard}
-use Rattle.tailsprig.specs.declared.Light.{Light}
-use Rattle.tailsprig.specs.declared.Heavy.{Heavy}
+use Rattle.halves.specs.declared.Heavy.{Heavy}
 use Rattle.codes.specs.Hearing.{toldCode}
 use Rattle.tailsprig.specs.Hearing.{hearOf, HearsAs, RunsAs}
 use Rattle.tailsprig.specs.declared.Ran.{Ran}
-
--- answers with equal fields are equal
-pub same-heavy : (r s : Listener) (m n : ℤ) → r ≡ s → m ≡ n → _≡_ {A = Heavy} (record { rec = r; code = m }) (record { rec = s; code = n })
-same-heavy r s m n p q = cc
-
-pub same-light : (e f : Ear) (j k : ℕ) (a b : Bool) (m n : ℤ) → e ≡ f → j ≡ k → a ≡ b → m ≡ n → _≡_ {A = Light} (record { ear = e; act = j; heavy = a; code = m }) (record { ear = f; act = k; heavy = b; code = n })
-same-light e f j k a b m n p q r s = cc
 
 -- an outcome, as C gets it
 abbrev coded : Outcome → Heavy

@@ -3,13 +3,13 @@ use Prim.Native.Nat.{ℕ}
 use mathlib.Core.Path.{_≡_}
 use lib.IntN.{ℤ}
 use Rattle.laws.specs.Choice.{choose}
-use Rattle.listening.specs.declared.Ear.{Ear}
 use Rattle.listening.specs.declared.Listener.{Listener}
 use Rattle.listening.specs.Hearing.{Outcome, Many}
-use Rattle.listening.specs.Parts.{glanced, settled, touches, lightlyTold, withEar}
+use Rattle.listening.specs.Parts.{withEar}
 use Rattle.codes.specs.Hearing.{toldCode}
-use Rattle.tailsprig.specs.declared.Light.{Light}
-use Rattle.tailsprig.specs.declared.Heavy.{Heavy}
+use Rattle.halves.specs.declared.Light.{Light}
+use Rattle.halves.specs.declared.Heavy.{Heavy}
+use Rattle.halves.specs.Halves.{lightOf, heavyOf}
 use Rattle.tailsprig.specs.declared.Ran.{Ran}
 
 -- what is laid down for a bit, as a C program gets it
@@ -23,18 +23,7 @@ pub record RunsAs (laid : Many) (r : Ran) : Type 0 where
   pub rec : r .rec ≡ laid .rec
   pub taken : r .taken ≡ laid .taken
 
--- the two parts of a bit
-abbrev pub lightOf : Ear → ℕ → ℕ → ℕ → ℕ → ℕ → Light
-lightOf ear kind len lastKind lastLen bit = record {
-  ear = glanced ear kind len lastKind lastLen bit .ear;
-  act = glanced ear kind len lastKind lastLen bit .act;
-  heavy = touches (glanced ear kind len lastKind lastLen bit .act);
-  code = toldCode (lightlyTold (glanced ear kind len lastKind lastLen bit .act));
-}
-
-abbrev pub heavyOf : Listener → ℕ → Heavy
-heavyOf rec act = record { rec = settled rec act .rec; code = toldCode (settled rec act .report) }
-
+-- the record with the ear of the light half, and what both halves give
 abbrev pub storedOf : Listener → Light → Listener
 storedOf rec s = withEar rec (s .ear)
 

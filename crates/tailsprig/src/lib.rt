@@ -1,6 +1,5 @@
 // The library as a C program sees it: numbers, byte slices, and a refusal n as the answer -n. include/tailsprig.h is its manual.
 use codes::Asked;
-use listening::Ear;
 use listening::Listener;
 use menus::Found;
 use menus::Menu;
@@ -13,7 +12,6 @@ use steps::Started;
 ghost use mathlib.Core.Path.{_≡_};
 ghost use Rattle.listening.specs.Record.{fresh};
 ghost use Rattle.listening.specs.Hearing.{heard, heardMany};
-ghost use Rattle.listening.specs.Parts.{touches, lightlyTold, Told16};
 ghost use lib.ListN.{length};
 ghost use Rattle.menus.specs.Groups.{looked, partAt};
 ghost use Rattle.menus.specs.Groups as groups;
@@ -24,8 +22,7 @@ ghost use Rattle.codes.specs.Choosing.{choiceCode, sourceCode};
 ghost use Rattle.tailsprig.specs.Reading.{lookedCode, SmallLooked, ReadsAs};
 ghost use Rattle.octets.specs.Lent.{says};
 ghost use Rattle.sequences.specs.Writing.{writtenCj};
-ghost use Rattle.codes.specs.Hearing.{toldCode};
-ghost use Rattle.tailsprig.specs.Hearing.{lightOf, heavyOf, HearsAs, RunsAs};
+ghost use Rattle.tailsprig.specs.Hearing.{HearsAs, RunsAs};
 ghost use Rattle.steps.specs.Session.{callerFrom, answererFrom, defaultTe, startedCaller};
 ghost use Rattle.steps.specs.Stepping.{stepped};
 ghost use Rattle.codes.specs.Steps.{carriedOf};
@@ -61,71 +58,12 @@ pub extern "C" fn tailsprig_write_cj(out: &mut [u8]) -> i32
     wrote(sequences::write_cj(out))
 }
 
-// What the ear and four numbers of a record, and a bit, give: the next ear, what to do with the messages and whether there is
-// anything to do, and otherwise the answer.
-struct Light {
-    ear: Ear,
-    act: u32,
-    heavy: bool,
-    code: i32,
-}
-
-struct Heavy {
-    rec: Listener,
-    code: i32,
-}
-
 // Many bits, as C gets them.
 #[repr(C)]
 pub struct Ran {
     pub rec: Listener,
     pub taken: usize,
     pub code: i32,
-}
-
-fn light_code(act: u32) -> i32
-    requires { ⌜ Told16 act ⌝ }
-    ensures { λ n. ⌜ n ≡ toldCode (lightlyTold act) ⌝ }
-{
-    if act < 5 {
-        return 0;
-    }
-    if act == 5 {
-        return 4;
-    }
-    0 - (act - 16) as i32
-}
-
-fn touches_messages(act: u32) -> bool
-    ensures { λ r. ⌜ r ≡ touches act ⌝ }
-{
-    if 0 < act { act < 5 } else { false }
-}
-
-fn hear_light(ear: Ear, kind: u8, len: u8, last_kind: u8, last_len: u8, bit: u8) -> Light
-    ensures { λ r. ⌜ r ≡ lightOf ear kind len «last_kind» «last_len» bit ⌝ }
-{
-    let s = listening::glance(ear, kind, len, last_kind, last_len, bit);
-    let next = s.ear;
-    let act = s.act;
-    Light {
-        ear: next,
-        act: act,
-        heavy: touches_messages(act),
-        code: light_code(act),
-    }
-}
-
-fn hear_heavy(rec: Listener, act: u32) -> Heavy
-    ensures { λ r. ⌜ r ≡ heavyOf rec act ⌝ }
-{
-    let a = listening::settle(rec, act);
-    let next = a.rec;
-    let heard = a.heard;
-    Heavy {
-        rec: next,
-        code: codes::heard_code(heard),
-    }
 }
 
 // A record of a line on which nothing was heard.
@@ -142,7 +80,7 @@ pub extern "C" fn tailsprig_fresh() -> Listener
 pub extern "C" fn tailsprig_hear(rec: &mut Listener, bit: u8) -> i32
     ensures { λ r. ⌜ HearsAs (heard (now (rec .entry)) bit) r (now (rec .exit)) ⌝ }
 {
-    let s = hear_light(
+    let s = halves::hear_light(
         rec.ear,
         rec.msg.kind,
         rec.msg.len,
@@ -152,7 +90,7 @@ pub extern "C" fn tailsprig_hear(rec: &mut Listener, bit: u8) -> i32
     );
     rec.ear = s.ear;
     if s.heavy {
-        let a = hear_heavy(*rec, s.act);
+        let a = halves::hear_heavy(*rec, s.act);
         *rec = a.rec;
         return a.code;
     }

@@ -10,7 +10,8 @@ use denote.Ref.{now}
 use Rattle.menus.specs.Offer.{offerOf}
 use Rattle.records.specs.declared.Modes.{Modes}
 use Rattle.records.proofs.Good.{good-home, available-within}
-use Rattle.offers.specs.Making.{categoryOctet, menuOf, cmOfferOf, cmOffer, jmFunction, callFunction}
+use Rattle.drafts.specs.Drafts.{cmOfferOf, cmOffer, jmFunction}
+use Rattle.offers.specs.Making.{categoryOctet, menuOf, callFunction}
 use Rattle.offers.proofs.Making.{cm-says, menu-short}
 use Rattle.offers.proofs.Answering.{call-octet}
 use Rattle.offers.proofs.answer_octet.Statement.{statement}

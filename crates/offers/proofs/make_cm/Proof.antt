@@ -10,7 +10,8 @@ use Rattle.menus.specs.declared.Offer.{Offer}
 use Rattle.records.specs.declared.Modes.{Modes}
 use Rattle.records.specs.Record.{badRecord}
 use Rattle.records.proofs.Good.{available-within}
-use Rattle.offers.specs.Making.{menuOf, cmOfferOf, cmOffer}
+use Rattle.drafts.specs.Drafts.{cmOfferOf, cmOffer}
+use Rattle.offers.specs.Making.{menuOf}
 use Rattle.offers.proofs.Making.{cm-says, bad-record, good-record, function-there, function-missing}
 use Rattle.offers.proofs.make_cm.Statement.{statement}
 use Rattle.offers.proofs.make_cm.Tie as tie

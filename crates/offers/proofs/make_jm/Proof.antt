@@ -12,7 +12,8 @@ use Rattle.menus.specs.Offer.{offerOf, saysRead}
 use Rattle.menus.proofs.Reading.{read-refused, read-offered}
 use Rattle.records.specs.declared.Modes.{Modes}
 use Rattle.records.specs.Record.{badRecord}
-use Rattle.offers.specs.Making.{menuOf, jmOfferOf, jmOffer}
+use Rattle.drafts.specs.Drafts.{jmOfferOf, jmOffer}
+use Rattle.offers.specs.Making.{menuOf}
 use Rattle.offers.proofs.Making.{jm-says, bad-record, good-record}
 use Rattle.offers.proofs.make_jm.Statement.{statement}
 use Rattle.offers.proofs.make_jm.Tie as tie

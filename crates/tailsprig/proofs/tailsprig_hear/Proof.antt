@@ -50,10 +50,11 @@ use denote.Exit.{yes}
 use Rattle.listening.specs.declared.Ear.{Ear}
 use Rattle.listening.specs.declared.Message.{Message}
 use Rattle.listening.specs.declared.Listener.{Listener}
-use Rattle.tailsprig.specs.declared.Light.{Light}
-use Rattle.tailsprig.specs.declared.Heavy.{Heavy}
+use Rattle.halves.specs.declared.Light.{Light}
+use Rattle.halves.specs.declared.Heavy.{Heavy}
 use Rattle.laws.specs.Choice.{choose}
-use Rattle.tailsprig.specs.Hearing.{lightOf, heavyOf, storedOf, afterLight, hearOf}
+use Rattle.halves.specs.Halves.{lightOf, heavyOf}
+use Rattle.tailsprig.specs.Hearing.{storedOf, afterLight, hearOf}
 use Rattle.tailsprig.proofs.Parts.{hear-coded}
 use Rattle.listening.proofs.Ear as R
 use Rattle.listening.proofs.Ear.Laws as R′
@@ -61,18 +62,18 @@ use Rattle.listening.proofs.Message as N
 use Rattle.listening.proofs.Message.Laws as N′
 use Rattle.listening.proofs.Listener as T
 use Rattle.listening.proofs.Listener.Laws as T′
-use Rattle.tailsprig.proofs.Light as L
-use Rattle.tailsprig.proofs.Light.Laws as L′
-use Rattle.tailsprig.proofs.Heavy as Y
-use Rattle.tailsprig.proofs.Heavy.Laws as Y′
-use Rattle.tailsprig.proofs.hear_light as light
-use Rattle.tailsprig.proofs.hear_light.Symbol as light-def
-use Rattle.tailsprig.proofs.hear_light.Symbol.{name as #tailsprig·hear-light}
-use Rattle.tailsprig.proofs.hear_light.Met as light-thm
-use Rattle.tailsprig.proofs.hear_heavy as heavy
-use Rattle.tailsprig.proofs.hear_heavy.Symbol as heavy-def
-use Rattle.tailsprig.proofs.hear_heavy.Symbol.{name as #tailsprig·hear-heavy}
-use Rattle.tailsprig.proofs.hear_heavy.Met as heavy-thm
+use Rattle.halves.proofs.Light as L
+use Rattle.halves.proofs.Light.Laws as L′
+use Rattle.halves.proofs.Heavy as Y
+use Rattle.halves.proofs.Heavy.Laws as Y′
+use Rattle.halves.proofs.hear_light as light
+use Rattle.halves.proofs.hear_light.Symbol as light-def
+use Rattle.halves.proofs.hear_light.Symbol.{name as #halves·hear-light}
+use Rattle.halves.proofs.hear_light.Met as light-thm
+use Rattle.halves.proofs.hear_heavy as heavy
+use Rattle.halves.proofs.hear_heavy.Symbol as heavy-def
+use Rattle.halves.proofs.hear_heavy.Symbol.{name as #halves·hear-heavy}
+use Rattle.halves.proofs.hear_heavy.Met as heavy-thm
 use Rattle.tailsprig.proofs.tailsprig_hear.Key.{name as #tailsprig·tailsprig-hear}
 use Rattle.tailsprig.proofs.tailsprig_hear as hear
 use Rattle.tailsprig.proofs.tailsprig_hear.Statement as stated
@@ -211,7 +212,7 @@ module _ {M : Type 1} (𝓤 : URA M) (H : Heap 𝓤) (A : Atoms 𝓤) (W : Given
       qed W (‵ ftrue ∷ []) ∵ nothing ! $ owned ! u32 (Is u32) (uint-makes 𝓤 H A W w32) (s .act) _ k-is $ fjoin ! $
       owned ! T.the-row (Is T.the-row) (LL.makes T.the-type T′.the-plain 𝓤 H A) (storedOf h s) _ now-is $ fjoin ! $ move ! (1 ∷ 0 ∷ []) $ join ! $ frame ! $ done !
 
-  module _ (C : Calls 𝓤 H) (Λ : Loops 𝓤 H) (fm : FmC 𝓤 H (W .laws) C) (known-light : Triple 𝓤 (C #tailsprig·hear-light) (ToLight 𝓤 H A at-mem run)) (known-heavy : Triple 𝓤 (C #tailsprig·hear-heavy) (ToHeavy 𝓤 H A at-mem run)) where
+  module _ (C : Calls 𝓤 H) (Λ : Loops 𝓤 H) (fm : FmC 𝓤 H (W .laws) C) (known-light : Triple 𝓤 (C #halves·hear-light) (ToLight 𝓤 H A at-mem run)) (known-heavy : Triple 𝓤 (C #halves·hear-heavy) (ToHeavy 𝓤 H A at-mem run)) where
     module _ (l₀ l₁ l₂ l₃ l₄ l₅ l₆ l₇ l₈ l₉ l₁₀ l₁₁ : ℕ) where
       abbrev En : Env 𝓤 H
       En = (tyInt w32, l₀) ∷ (tyRef (named 0) mut (pointee (T.the-row .written)), l₁) ∷ (tyInt w8, l₂) ∷ (L′.mir, l₃) ∷ (Y′.mir, l₄) ∷ (R′.mir, l₅) ∷ (tyInt w8, l₆) ∷ (tyInt w8, l₇) ∷ (tyInt w8, l₈) ∷ (tyInt w8, l₉) ∷ (tyBool, l₁₀) ∷ (T′.mir, l₁₁) ∷ []
@@ -279,7 +280,7 @@ module _ {M : Type 1} (𝓤 : URA M) (H : Heap 𝓤) (A : Atoms 𝓤) (W : Given
         keep ! all-locals $ ends l₀ l₁ l₂ l₃ l₄ l₅ l₆ l₇ l₈ l₉ l₁₀ l₁₁ (ended-by h s) (left (s .heavy) (heavyOf (storedOf h s) (s .act)) (ended-by h s) no-heavy ∙ ap (λ (z : Light). afterLight h z) e) (light-code-is s _ is))))))))))))))))))))
 
 module _ {M : Type 1} (𝓤 : URA M) (H : Heap 𝓤) (A : Atoms 𝓤) (W : Given 𝓤 H A) (at-mem : Memory → SProp 𝓤) (run : Routine → Fun 𝓤) where
-  hear-walks : (C : Calls 𝓤 H) (Λ : Loops 𝓤 H) → FmC 𝓤 H (W .laws) C → Triple 𝓤 (C #tailsprig·hear-light) (ToLight 𝓤 H A at-mem run) → Triple 𝓤 (C #tailsprig·hear-heavy) (ToHeavy 𝓤 H A at-mem run)
+  hear-walks : (C : Calls 𝓤 H) (Λ : Loops 𝓤 H) → FmC 𝓤 H (W .laws) C → Triple 𝓤 (C #halves·hear-light) (ToLight 𝓤 H A at-mem run) → Triple 𝓤 (C #halves·hear-heavy) (ToHeavy 𝓤 H A at-mem run)
       → Walks 𝓤 H A hear.ended stayed (WpFn 𝓤 H C Λ code.function) (hear.clauses 𝓤 H A at-mem run)
   hear-walks C Λ fm known-light known-heavy = walked 𝓤 H A hear.ended stayed (hear.clauses 𝓤 H A at-mem run) (WpFn 𝓤 H C Λ code.function) (λ κs. (ptr-vals, (uint-vals w8, tt))) (λ κs. (mut-tells (named 0) (κs .0) T.the-row, (uint-tells w8, tt)))
       (λ κs qs bounds a g are. via 𝓤 _ (fst∗ 𝓤 _ (emp 𝓤)) (walk 𝓤 H A W at-mem run (κs .0) (qs .0) (a .0 .ptr .0) (a .0 .ptr .1) (a .0 .name) (a .0 .now) (a .1 .0) (are .1 .0 .1) C Λ fm known-light known-heavy))
@@ -288,7 +289,7 @@ module _ {M : Type 1} (𝓤 : URA M) (H : Heap 𝓤) (A : Atoms 𝓤) (W : Given
   goes = (goes-ref 𝓤 H A W 1 0 tt (plain (λ _. T.the-row)), (goes-none 𝓤 H A W 1 (λ _. u8) yes (λ κs x f. refl), tt))
 
 hear-meets : {M : Type 1} (𝓤 : URA M) (H : Heap 𝓤) (A : Atoms 𝓤) → Given 𝓤 H A → (at-mem : Memory → SProp 𝓤) (run : Routine → Fun 𝓤) (𝓣 : Tables 𝓤 H)
-    → Triple 𝓤 (𝓣 .C #tailsprig·hear-light) (ToLight 𝓤 H A at-mem run) → Triple 𝓤 (𝓣 .C #tailsprig·hear-heavy) (ToHeavy 𝓤 H A at-mem run)
+    → Triple 𝓤 (𝓣 .C #halves·hear-light) (ToLight 𝓤 H A at-mem run) → Triple 𝓤 (𝓣 .C #halves·hear-heavy) (ToHeavy 𝓤 H A at-mem run)
     → Meets 𝓤 H A hear.signature (WpFn 𝓤 H (𝓣 .C) (𝓣 .Λ) code.function) (hear.spec 𝓤 H A at-mem run)
 hear-meets 𝓤 H A W at-mem run 𝓣 known-light known-heavy = walk-meets 𝓤 H A hear.ended stayed W (goes 𝓤 H A W at-mem run) (hear.clauses 𝓤 H A at-mem run) (WpFn 𝓤 H (𝓣 .C) (𝓣 .Λ) code.function) (WpFn-mono 𝓤 H (W .laws) 𝓣 code.function)
     (hear-walks 𝓤 H A W at-mem run (𝓣 .C) (𝓣 .Λ) (fmOf 𝓤 H (W .laws) 𝓣) known-light known-heavy)
@@ -299,5 +300,5 @@ tailsprig-hear-spec 𝓤 H 𝓜 𝓖 𝓡 =
     entered 𝓤 H (tripleOf 𝓤 H (𝓖 .A) hear.signature (hear.spec 𝓤 H (𝓖 .A) (𝓜 .mem) (𝓡 .run)))
     (tables 𝓤 H 𝓜 𝓡 code.env .C) (tables 𝓤 H 𝓜 𝓡 code.env .Λ) #tailsprig·tailsprig-hear code.function (code.unfolded 𝓤 H 𝓜 𝓡)
     (hear-meets 𝓤 H (𝓖 .A) (givenOf 𝓤 H 𝓜 𝓖) (𝓜 .mem) (𝓡 .run) (tablesOf 𝓤 H 𝓜 (tables 𝓤 H 𝓜 𝓡 code.env))
-    (cited 𝓤 H (ToLight 𝓤 H (𝓖 .A) (𝓜 .mem) (𝓡 .run)) 𝓜 𝓡 code.env #tailsprig·hear-light light-def.routine code.calls-tailsprig·hear-light (light-thm.met 𝓤 H 𝓜 𝓖 𝓡))
-    (cited 𝓤 H (ToHeavy 𝓤 H (𝓖 .A) (𝓜 .mem) (𝓡 .run)) 𝓜 𝓡 code.env #tailsprig·hear-heavy heavy-def.routine code.calls-tailsprig·hear-heavy (heavy-thm.met 𝓤 H 𝓜 𝓖 𝓡)))
+    (cited 𝓤 H (ToLight 𝓤 H (𝓖 .A) (𝓜 .mem) (𝓡 .run)) 𝓜 𝓡 code.env #halves·hear-light light-def.routine code.calls-halves·hear-light (light-thm.met 𝓤 H 𝓜 𝓖 𝓡))
+    (cited 𝓤 H (ToHeavy 𝓤 H (𝓖 .A) (𝓜 .mem) (𝓡 .run)) 𝓜 𝓡 code.env #halves·hear-heavy heavy-def.routine code.calls-halves·hear-heavy (heavy-thm.met 𝓤 H 𝓜 𝓖 𝓡)))

@@ -1,0 +1,18 @@
+use borrow.Author.Needs.{needs}
+use Rattle.laws.specs.Choice.{choose}
+use Rattle.drafts.proofs.with_item_1.Statement.{statement}
+use Rattle.drafts.proofs.with_item_1.Tie as tie
+
+returns : tie.Need-returns
+unfolding choose
+returns c = simp (c .if1 .taken)
+
+mul-result : tie.Need-mul-result
+mul-result c = search needs
+
+returns-2 : tie.Need-returns-2
+unfolding choose
+returns-2 c = simp (c .if1 .left)
+
+pub with-item-1-spec : {M : Type 1} → statement M
+with-item-1-spec = tie.close (tie.spec returns mul-result returns-2)
