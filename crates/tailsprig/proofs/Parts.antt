@@ -5,7 +5,7 @@ use mathlib.Core.Path.{_≡_, refl, sym, ap, _∙_}
 use mathlib.Core.Bool.{Bool, true, false}
 use lib.IntN.{ℤ}
 use Rattle.laws.specs.Choice.{choose}
-use Rattle.listening.specs.declared.Ear.{Ear}
+use Rattle.framing.specs.declared.Ear.{Ear}
 use Rattle.listening.specs.declared.Listener.{Listener}
 use Rattle.listening.specs.Hearing.{Outcome, Many, heard}
 use Rattle.listening.specs.Parts.{glanced, settled, touches, lightlyTold, withEar, inParts}

@@ -4,7 +4,7 @@ use mathlib.Core.Path.{_≡_}
 use mathlib.Core.Bool.{Bool, true, false}
 use lib.IntN.{ℤ, pos, negℤ}
 use Rattle.laws.specs.Choice.{choose}
-use Rattle.listening.specs.declared.Ear.{Ear}
+use Rattle.framing.specs.declared.Ear.{Ear}
 use Rattle.listening.specs.declared.Listener.{Listener}
 use Rattle.listening.specs.Hearing.{Told, silence, ci, menu, cj, refusal, Outcome, Many}
 use Rattle.listening.specs.Parts.{glanced, settled, touches, lightlyTold, withEar}

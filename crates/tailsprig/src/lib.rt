@@ -1,5 +1,5 @@
 // The library as a C program sees it: numbers, byte slices, and a refusal n as the answer -n. include/tailsprig.h is its manual.
-use listening::Ear;
+use framing::Ear;
 use listening::Heard;
 use listening::Listener;
 use menus::Found;

@@ -1,5 +1,5 @@
 use mathlib.Core.Path.{ap, _∙_}
-use Rattle.listening.specs.declared.Stepped.{Stepped}
+use Rattle.framing.specs.declared.Stepped.{Stepped}
 use Rattle.listening.specs.Parts.{touches, lightlyTold}
 use Rattle.tailsprig.specs.Hearing.{toldCode}
 use Rattle.tailsprig.proofs.Parts.{same-light}
