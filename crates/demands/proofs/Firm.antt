@@ -15,7 +15,7 @@ use Rattle.octets.specs.Lists.{firstFault, untilCategory}
 use Rattle.octets.specs.Lent.{Said, count, refusal, put}
 use Rattle.sequences.specs.Line.{framed, framedAll, tenOnes, sequence, copies}
 use Rattle.listening.specs.declared.Listener.{Listener}
-use Rattle.listening.specs.Framing.{more, isCj, hunted, synced, bounded, stopped, ended, turned, stepped}
+use Rattle.framing.specs.Framing.{more, isCj, hunted, synced, bounded, stopped, ended, turned, stepped}
 use Rattle.listening.specs.Hearing.{Told, changed, agreed, reported, told, acted, heardIn}
 use Rattle.listening.specs.Record.{fresh}
 use Rattle.stretches.specs.Hearing.{Report, message, cj, reports}

@@ -8,6 +8,7 @@ ghost use Prim.Native.Nat.{_*_, _<_};
 ghost use Rattle.laws.specs.Choice.{choose, both, either};
 ghost use Rattle.drafts.specs.Drafts.{bit, withItem0, accessOptions, cmOfferOf, paired, withItem1, jmOfferOf};
 
+// Both tests hold.
 pub fn both_of(a: bool, b: bool) -> bool
     ensures { λ r. ⌜ r ≡ both a b ⌝ }
 {
@@ -26,6 +27,7 @@ fn either_of(a: bool, b: bool) -> bool
     b
 }
 
+// A test as a bit.
 pub fn bit_of(there: bool) -> u8
     ensures { λ r. ⌜ (r ≡ bit there) × (r < 2) ⌝ }
 {

@@ -4,7 +4,7 @@ use mathlib.Core.Path.{_≡_, ap, ap₂, _∙_}
 use mathlib.Core.Bool.{Bool}
 use lib.IntN.{ℤ}
 use Rattle.listening.specs.declared.Listener.{Listener}
-use Rattle.listening.specs.declared.Stepped.{Stepped}
+use Rattle.framing.specs.declared.Stepped.{Stepped}
 use Rattle.listening.specs.Parts.{touches, lightlyTold}
 use Rattle.codes.specs.Hearing.{toldCode}
 use Rattle.halves.specs.declared.Light.{Light}

@@ -1,6 +1,6 @@
 -- The halves of a bit, as the numbers that cross to C.
 use Prim.Native.Nat.{ℕ}
-use Rattle.listening.specs.declared.Ear.{Ear}
+use Rattle.framing.specs.declared.Ear.{Ear}
 use Rattle.listening.specs.declared.Listener.{Listener}
 use Rattle.listening.specs.Parts.{glanced, settled, touches, lightlyTold}
 use Rattle.codes.specs.Hearing.{toldCode}

@@ -1,5 +1,5 @@
 // Halves: a bit as the C ABI hears it. The light half needs the ear and four numbers of a record, the heavy one all of it.
-use listening::Ear;
+use framing::Ear;
 use listening::Listener;
 ghost use mathlib.Core.Path.{_≡_};
 ghost use Rattle.listening.specs.Parts.{touches, lightlyTold, Told16};
@@ -39,6 +39,7 @@ fn touches_messages(act: u32) -> bool
     if 0 < act { act < 5 } else { false }
 }
 
+// The light half: the ear and four numbers of the record, which most bits are content with.
 pub fn hear_light(ear: Ear, kind: u8, len: u8, last_kind: u8, last_len: u8, bit: u8) -> Light
     ensures { λ r. ⌜ r ≡ lightOf ear kind len «last_kind» «last_len» bit ⌝ }
 {
@@ -53,6 +54,7 @@ pub fn hear_light(ear: Ear, kind: u8, len: u8, last_kind: u8, last_len: u8, bit:
     }
 }
 
+// The heavy half: what a bit asks to be done with the messages.
 pub fn hear_heavy(rec: Listener, act: u32) -> Heavy
     ensures { λ r. ⌜ r ≡ heavyOf rec act ⌝ }
 {

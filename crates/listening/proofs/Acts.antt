@@ -1,17 +1,23 @@
--- What an act leaves, by whether it reports.
+-- What a bit asks, and what an act leaves, by whether it reports.
 -- Assumes nothing.
-use Prim.Native.Nat.{ℕ}
+use Prim.Native.Nat.{ℕ, _≤_}
 use native.Mathlib.Omega.{arith}
 use mathlib.Core.Path.{_≡_, refl, sym, ap, _∙_}
 use mathlib.Core.Logic.{⊎-elim}
-use borrow.Author.Tests.{eq-eqb, ne-eqb}
-use lib.Dec.{eqb}
+use borrow.Author.Tests.{le-ltb, eq-eqb, ne-eqb}
+use lib.Dec.{ltb, eqb}
 use Rattle.laws.specs.Choice.{choose}
+use Rattle.framing.specs.declared.Ear.{Ear}
+use Rattle.framing.specs.declared.Stepped.{Stepped}
+use Rattle.framing.specs.Framing.{Refuses, stepped, stay}
 use Rattle.listening.specs.declared.Message.{Message}
 use Rattle.listening.specs.declared.Listener.{Listener}
-use Rattle.listening.specs.declared.Stepped.{Stepped}
-use Rattle.listening.specs.Framing.{Refuses}
 use Rattle.listening.specs.Hearing.{changed, acted}
+
+-- a byte that is a bit turns the ear
+pub bit-steps : (ear : Ear) (len bit : ℕ) → bit ≤ 1 → choose (ltb 1 bit) (stay ear 17) (stepped ear len bit) ≡ stepped ear len bit
+unfolding choose
+bit-steps ear len bit h = simp (le-ltb 1 bit h)
 
 -- the last of the refusals, where it is none of the others
 pub refuses-last : (act : ℕ) → Refuses act → (act ≡ 18 → ⊥) → (act ≡ 19 → ⊥) → (act ≡ 20 → ⊥) → act ≡ 29

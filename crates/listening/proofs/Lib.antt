@@ -3,4 +3,3 @@ pub mod Many
 pub mod Parts
 pub mod Ranges
 pub mod Unique
-pub mod Words

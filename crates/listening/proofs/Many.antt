@@ -14,8 +14,8 @@ use Rattle.laws.specs.Choice.{choose}
 use Rattle.laws.proofs.Chosen.{chosen}
 use Rattle.listening.specs.declared.Message.{Message}
 use Rattle.listening.specs.declared.Listener.{Listener}
-use Rattle.listening.specs.declared.Stepped.{Stepped}
-use Rattle.listening.specs.Framing.{stepped}
+use Rattle.framing.specs.declared.Stepped.{Stepped}
+use Rattle.framing.specs.Framing.{stepped}
 use Rattle.listening.specs.Hearing.{Told, silence, ci, menu, cj, refusal, Outcome, Many, changed, agreed, reported, told, acted, refuses, heardIn, silent, listened, heardMany, finished}
 use Rattle.listening.specs.Record.{Fits}
 use Rattle.listening.proofs.Acts.{changed-not, acted-other}

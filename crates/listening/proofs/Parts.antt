@@ -9,16 +9,17 @@ use mathlib.Core.Logic.{⊎-elim}
 use lib.Dec.{ltb, eqb, lit≤}
 use Rattle.laws.specs.Choice.{choose, both}
 use Rattle.laws.proofs.Chosen.{chosen, both-true, both-false}
-use Rattle.listening.specs.declared.Ear.{Ear}
+use Rattle.framing.specs.declared.Ear.{Ear}
 use Rattle.listening.specs.declared.Message.{Message}
 use Rattle.listening.specs.declared.Listener.{Listener}
-use Rattle.listening.specs.declared.Stepped.{Stepped}
-use Rattle.listening.specs.Framing.{ActFits, stepped}
+use Rattle.framing.specs.declared.Stepped.{Stepped}
+use Rattle.framing.specs.Framing.{ActFits, stepped, stay}
 use Rattle.listening.specs.Record.{Fits, partsInRange, inRange}
 use Rattle.listening.specs.Hearing.{Outcome, changed, told, acted, refuses, heardIn, heard}
-use Rattle.listening.specs.Parts.{Told16, stay, glanced, settledMessage, settled, touches, lightlyTold, withEar, inParts}
+use Rattle.listening.specs.Parts.{Told16, glanced, settledMessage, settled, touches, lightlyTold, withEar, inParts}
 use Rattle.listening.proofs.Acts.{changed-not}
-use Rattle.listening.proofs.Ranges.{parts-ear, parts-len, range-fits, stepped-fits}
+use Rattle.framing.proofs.Ranges.{stepped-fits}
+use Rattle.listening.proofs.Ranges.{parts-ear, parts-len, range-fits}
 
 -- where there is room, an act changes the message as it asks
 settled-changed : (m : Message) (act past : ℕ) → (act ≡ 3 → m .len < 64) → settledMessage m act past ≡ changed m act past

@@ -10,15 +10,15 @@ use Rattle.laws.specs.Tests.{sameList}
 use Rattle.octets.specs.declared.Purpose.the-variants.{Reading}
 use Rattle.octets.specs.Refusals.{number}
 use Rattle.octets.specs.Lists.{listFault}
-use Rattle.listening.specs.declared.Ear.{Ear}
+use Rattle.framing.specs.declared.Ear.{Ear}
 use Rattle.listening.specs.declared.Message.{Message}
 use Rattle.listening.specs.declared.Listener.{Listener}
-use Rattle.listening.specs.declared.Stepped.{Stepped}
+use Rattle.framing.specs.declared.Stepped.{Stepped}
 use Rattle.listening.specs.declared.Heard.{Heard}
 use Rattle.listening.specs.declared.Heard.the-variants.{Nothing, Ci, Menu, Cj, Refused}
 use Rattle.listening.specs.declared.Answer.{Answer}
 use Rattle.listening.specs.declared.Ran.{Ran}
-use Rattle.listening.specs.Framing.{octetOf, startCi, startMenu, store, report, tellCj, stepped}
+use Rattle.framing.specs.Framing.{octetOf, startCi, startMenu, store, report, tellCj, stepped}
 use Rattle.listening.specs.Record.{inRange}
 
 -- what is reported: nothing, CI, a menu that is agreed or not, CJ, or a refusal's number

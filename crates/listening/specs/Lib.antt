@@ -1,4 +1,3 @@
-pub mod Framing
 pub mod Record
 pub mod Hearing
 pub mod Parts

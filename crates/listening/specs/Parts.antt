@@ -3,16 +3,13 @@ use Prim.Native.Nat.{ℕ, _-_, _<_, _≤_}
 use mathlib.Core.Bool.{Bool}
 use lib.Dec.{ltb, eqb}
 use Rattle.laws.specs.Choice.{choose, both}
-use Rattle.listening.specs.declared.Ear.{Ear}
+use Rattle.framing.specs.declared.Ear.{Ear}
 use Rattle.listening.specs.declared.Message.{Message}
 use Rattle.listening.specs.declared.Listener.{Listener}
-use Rattle.listening.specs.declared.Stepped.{Stepped}
-use Rattle.listening.specs.Framing.{store, report, tellCj, refuse, stepped}
+use Rattle.framing.specs.declared.Stepped.{Stepped}
+use Rattle.framing.specs.Framing.{store, report, tellCj, refuse, stepped, stay}
 use Rattle.listening.specs.Record.{partsInRange}
 use Rattle.listening.specs.Hearing.{Told, silence, cj, refusal, Outcome, changed, reported}
-
-abbrev pub stay : Ear → ℕ → Stepped
-stay ear act = record { ear = ear; act = act }
 
 -- refusals 10 and 1 leave the ear as it is
 unfoldable pub glanced : Ear → ℕ → ℕ → ℕ → ℕ → ℕ → Stepped

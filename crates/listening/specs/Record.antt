@@ -4,12 +4,10 @@ use mathlib.Core.Bool.{Bool}
 use lib.Dec.{leb}
 use lib.ListN.{replicate}
 use Rattle.laws.specs.Choice.{both}
-use Rattle.listening.specs.declared.Ear.{Ear}
+use Rattle.framing.specs.declared.Ear.{Ear}
+use Rattle.framing.specs.Ranges.{EarFits, earInRange}
 use Rattle.listening.specs.declared.Message.{Message}
 use Rattle.listening.specs.declared.Listener.{Listener}
-
-abbrev pub earInRange : Ear → Bool
-earInRange ear = both (leb (ear .heard) 30) (leb (ear .place) 28)
 
 -- the kind and the count of octets of a message
 abbrev pub messageInRange : ℕ → ℕ → Bool
@@ -24,10 +22,6 @@ abbrev pub inRange : Listener → Bool
 inRange rec = partsInRange (rec .ear) (rec .msg .kind) (rec .msg .len) (rec .last .kind) (rec .last .len)
 
 -- the same, as facts
-pub record EarFits (ear : Ear) : Type 0 where
-  pub heard : ear .heard ≤ 30
-  pub place : ear .place ≤ 28
-
 pub record MessageFits (m : Message) : Type 0 where
   pub kind : m .kind ≤ 2
   pub len : m .len ≤ 64

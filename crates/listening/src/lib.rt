@@ -2,27 +2,21 @@
 //
 // The record is large and a bit touches little of it, so a bit first turns the ear, which is three numbers, and says what is
 // to be done with the messages; the messages are touched only then.
+use framing::Ear;
+use framing::Stepped;
 use octets::Purpose;
 use octets::Refusal;
 use octets::Verdict;
 ghost use mathlib.Core.Path.{_≡_};
-ghost use Prim.Native.Nat.{_+_, _-_, _*_, _<_, _≤_};
+ghost use Prim.Native.Nat.{_-_, _<_};
 ghost use lib.Dec.{eqb};
-ghost use lib.ListN.{length, take, drop, getD};
+ghost use lib.ListN.{take};
 ghost use Rattle.octets.specs.Refusals.{number};
 ghost use Rattle.octets.specs.Lists.{listFault};
-ghost use Rattle.listening.specs.Framing.{pushed, more, isCj, octetOf, Refuses, ActFits, go, hunted, synced, bounded, stopped, ended, turned, stepped};
-ghost use Rattle.listening.specs.Record.{EarFits, Fits, earInRange, messageInRange, partsInRange, inRange, empty, fresh};
-ghost use Rattle.listening.specs.Parts.{glanced, stay, settledMessage, settled};
+ghost use Rattle.framing.specs.Framing.{Refuses, ActFits};
+ghost use Rattle.listening.specs.Record.{Fits, messageInRange, partsInRange, inRange, empty, fresh};
+ghost use Rattle.listening.specs.Parts.{glanced, settledMessage, settled};
 ghost use Rattle.listening.specs.Hearing.{says, started, stored, changed, agreed, reported, told, acted, heardIn, heard, listened, heardMany, Hears, HearsMany, finished};
-
-// What was heard last: the newest bit on top, how many bits were heard up to 30, and where in the framing the next bit is.
-#[repr(C)]
-pub struct Ear {
-    pub past: u32,
-    pub heard: u32,
-    pub place: u32,
-}
 
 // A message: 1 for CI, 2 for a menu, 0 for none; how many octets it has; and these.
 #[repr(C)]
@@ -49,18 +43,6 @@ pub enum Heard {
     Refused(Refusal),
 }
 
-// The next place in the framing, numbered as docs/RANGES.md says, and what is to be done: 0 nothing, 1 a CI starts, 2 a menu starts,
-// 3 an octet is stored, 4 the message is reported, 5 CJ is told, 16 + n refusal n.
-pub struct Turned {
-    pub place: u32,
-    pub act: u32,
-}
-
-pub struct Stepped {
-    pub ear: Ear,
-    pub act: u32,
-}
-
 pub struct Answer {
     pub rec: Listener,
     pub heard: Heard,
@@ -71,158 +53,6 @@ pub struct Ran {
     pub rec: Listener,
     pub taken: usize,
     pub heard: Heard,
-}
-
-fn push(past: u32, bit: u8) -> u32
-    requires { ⌜ bit < 2 ⌝ }
-    ensures { λ r. ⌜ r ≡ pushed past bit ⌝ }
-{
-    past / 2 + bit as u32 * 2147483648
-}
-
-fn one_more(heard: u32) -> u32
-    requires { ⌜ heard ≤ 30 ⌝ }
-    ensures { λ r. ⌜ r ≡ more heard ⌝ }
-{
-    if heard < 30 { heard + 1 } else { heard }
-}
-
-fn ends_cj(past: u32, heard: u32) -> bool
-    ensures { λ r. ⌜ r ≡ isCj past heard ⌝ }
-{
-    if past / 4 == 537395712 {
-        heard == 30
-    } else {
-        false
-    }
-}
-
-fn octet_heard(past: u32) -> u8
-    ensures { λ r. ⌜ r ≡ octetOf past ⌝ }
-{
-    (past / 8388608 % 256) as u8
-}
-
-fn turn_to(place: u32, act: u32) -> Turned
-    ensures { λ r. ⌜ r ≡ go place act ⌝ }
-{
-    Turned {
-        place: place,
-        act: act,
-    }
-}
-
-fn hunt(before: u32, bit: u8) -> u32
-    ensures { λ r. ⌜ r ≡ hunted before bit ⌝ }
-{
-    if bit == 0 {
-        if before / 4194304 == 1023 { 1 } else { 0 }
-    } else {
-        0
-    }
-}
-
-fn end_sync(past: u32) -> Turned
-    ensures { λ r. ⌜ r ≡ synced past ⌝ }
-{
-    let ten = past / 4194304;
-    if ten == 512 {
-        return turn_to(10, 1);
-    }
-    if ten == 960 {
-        return turn_to(10, 2);
-    }
-    turn_to(0, 0)
-}
-
-fn at_boundary(bit: u8) -> Turned
-    ensures { λ r. ⌜ r ≡ bounded bit ⌝ }
-{
-    if bit == 0 {
-        return turn_to(11, 0);
-    }
-    turn_to(20, 0)
-}
-
-fn at_stop(past: u32, len: u8, bit: u8) -> Turned
-    ensures { λ r. ⌜ r ≡ stopped past len bit ⌝ }
-{
-    if bit == 0 {
-        return turn_to(0, 18);
-    }
-    if octets::is_bad(octet_heard(past)) {
-        return turn_to(0, 19);
-    }
-    if len == 64 {
-        return turn_to(0, 20);
-    }
-    turn_to(10, 3)
-}
-
-fn at_end(place: u32, before: u32, bit: u8) -> Turned
-    ensures { λ r. ⌜ r ≡ ended place before bit ⌝ }
-{
-    if bit == 0 {
-        return turn_to(hunt(before, bit), 29);
-    }
-    if place < 28 {
-        return turn_to(place + 1, 0);
-    }
-    turn_to(0, 4)
-}
-
-fn turn(place: u32, before: u32, past: u32, len: u8, bit: u8) -> Turned
-    ensures { λ r. ⌜ r ≡ turned place before past len bit ⌝ }
-{
-    if place == 0 {
-        return turn_to(hunt(before, bit), 0);
-    }
-    if place < 9 {
-        return turn_to(place + 1, 0);
-    }
-    if place == 9 {
-        return end_sync(past);
-    }
-    if place == 10 {
-        return at_boundary(bit);
-    }
-    if place < 19 {
-        return turn_to(place + 1, 0);
-    }
-    if place == 19 {
-        return at_stop(past, len, bit);
-    }
-    at_end(place, before, bit)
-}
-
-// A bit turns the ear and says what is to be done.
-fn step(ear: Ear, len: u8, bit: u8) -> Stepped
-    requires { ⌜ EarFits ear × (bit < 2) ⌝ }
-    ensures { λ r. ⌜ r ≡ stepped ear len bit ⌝ }
-{
-    let before = ear.past;
-    let place = ear.place;
-    let past = push(before, bit);
-    let heard = one_more(ear.heard);
-    if ends_cj(past, heard) {
-        return Stepped {
-            ear: Ear {
-                past: past,
-                heard: heard,
-                place: 0,
-            },
-            act: 5,
-        };
-    }
-    let t = turn(place, before, past, len, bit);
-    Stepped {
-        ear: Ear {
-            past: past,
-            heard: heard,
-            place: t.place,
-        },
-        act: t.act,
-    }
 }
 
 fn start(m: Message, kind: u8) -> Message
@@ -258,7 +88,7 @@ fn change(m: Message, act: u32, past: u32) -> Message
         return start(m, 2);
     }
     if act == 3 {
-        return put(m, octet_heard(past));
+        return put(m, framing::octet_heard(past));
     }
     m
 }
@@ -383,21 +213,11 @@ fn message_fits(kind: u8, len: u8) -> bool
     if kind <= 2 { len <= 64 } else { false }
 }
 
-fn ear_fits(ear: Ear) -> bool
-    ensures { λ r. ⌜ r ≡ earInRange ear ⌝ }
-{
-    if ear.heard <= 30 {
-        ear.place <= 28
-    } else {
-        false
-    }
-}
-
 // The ranges of docs/RANGES.md, of what a bit looks at.
 fn parts_fit(ear: Ear, kind: u8, len: u8, last_kind: u8, last_len: u8) -> bool
     ensures { λ r. ⌜ r ≡ partsInRange ear kind len «last_kind» «last_len» ⌝ }
 {
-    if ear_fits(ear) {
+    if framing::ear_fits(ear) {
         if message_fits(kind, len) {
             return message_fits(last_kind, last_len);
         }
@@ -428,7 +248,7 @@ fn hear_in(rec: Listener, bit: u8) -> Answer
     }
     let ear = rec.ear;
     let msg = rec.msg;
-    act_on(rec, step(ear, msg.len, bit))
+    act_on(rec, framing::step(ear, msg.len, bit))
 }
 
 // A bit: what it reports, and the record after it.
@@ -520,7 +340,7 @@ fn run(rec: Listener, bits: &[u8]) -> Ran
                 heard: Heard::Refused(Refusal::NotABit),
             };
         }
-        let s = step(ear, msg.len, bit);
+        let s = framing::step(ear, msg.len, bit);
         ear = s.ear;
         let act = s.act;
         if 3 < act {
@@ -555,23 +375,14 @@ pub fn hear_many(rec: Listener, bits: &[u8]) -> Ran
     }
 }
 
-fn keep(ear: Ear, act: u32) -> Stepped
-    ensures { λ r. ⌜ r ≡ stay ear act ⌝ }
-{
-    Stepped { ear: ear, act: act }
-}
-
 // A bit in two parts, for a host that lends the record: first what the ear and four numbers tell ..
 pub fn glance(ear: Ear, kind: u8, len: u8, last_kind: u8, last_len: u8, bit: u8) -> Stepped
     ensures { λ r. ⌜ r ≡ glanced ear kind len «last_kind» «last_len» bit ⌝ }
 {
     if parts_fit(ear, kind, len, last_kind, last_len) {
-        if 1 < bit {
-            return keep(ear, 17);
-        }
-        return step(ear, len, bit);
+        return framing::step(ear, len, bit);
     }
-    keep(ear, 26)
+    framing::keep(ear, 26)
 }
 
 fn settle_message(m: Message, act: u32, past: u32) -> Message

@@ -10,10 +10,10 @@ use Rattle.laws.proofs.Chosen.{chosen, both-true}
 use Rattle.sequences.specs.Line.{tenOnes}
 use Rattle.listening.specs.declared.Message.{Message}
 use Rattle.listening.specs.declared.Listener.{Listener}
-use Rattle.listening.specs.Framing.{pushed, lastTen, hunted, turned}
+use Rattle.framing.specs.Framing.{pushed, lastTen, hunted, turned}
 use Rattle.listening.specs.Hearing.{changed, told, acted}
 use Rattle.listening.specs.Record.{empty, fresh}
-use Rattle.listening.proofs.Words.{hearing}
+use Rattle.framing.proofs.Words.{hearing}
 use Rattle.stretches.specs.Stretch.{Nowhere}
 use Rattle.stretches.proofs.Each.{none, more, each-append, Bits}
 use Rattle.stretches.proofs.Words.{start}

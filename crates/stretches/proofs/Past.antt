@@ -10,8 +10,8 @@ use lib.Dec.{ltb, lit<}
 use lib.ListN.{length, take, drop, getD, take-append-drop, getD-replicate, List·getD-append}
 use lib.Seq.{drop-at, drop-append-add, getD-drop}
 use Rattle.sequences.specs.Line.{framed, framedAll, tenOnes, cj}
-use Rattle.listening.specs.Framing.{pushed, lastTen}
-use Rattle.listening.proofs.Words.{hearing}
+use Rattle.framing.specs.Framing.{pushed, lastTen}
+use Rattle.framing.proofs.Words.{hearing}
 use Rattle.stretches.proofs.Each.{none, more, Bits}
 
 -- a past is a number of 32 bits

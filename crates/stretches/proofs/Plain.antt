@@ -13,11 +13,11 @@ use Rattle.laws.proofs.Chosen.{chosen, both-true}
 use Rattle.sequences.specs.Line.{cj}
 use Rattle.listening.specs.declared.Message.{Message}
 use Rattle.listening.specs.declared.Listener.{Listener}
-use Rattle.listening.specs.Framing.{pushed, more, isCj, turned, steppedTo, stepped}
+use Rattle.framing.specs.Framing.{pushed, more, isCj, turned, steppedTo, stepped}
 use Rattle.listening.specs.Hearing as telling
 use Rattle.listening.specs.Hearing.{Told, silence, ci, menu, Outcome, acted, heardIn, heard}
 use Rattle.listening.specs.Record.{inRange, fresh}
-use Rattle.listening.proofs.Words.{hearing}
+use Rattle.framing.proofs.Words.{hearing}
 use Rattle.listening.proofs.Ranges.{fits-range, fresh-fits, heard-range, heard-inside}
 use Rattle.stretches.specs.Stretch.{Nowhere}
 use Rattle.stretches.specs.Hearing.{Report, noted, reports}

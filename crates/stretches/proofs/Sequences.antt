@@ -20,9 +20,9 @@ use Rattle.sequences.specs.Line.{framed, framedAll, tenOnes, sync, sequence}
 use Rattle.sequences.specs.Tens.{syncTen}
 use Rattle.listening.specs.declared.Message.{Message}
 use Rattle.listening.specs.declared.Listener.{Listener}
-use Rattle.listening.specs.Framing.{pushed, lastTen, octetOf, go, hunted, synced, bounded, stopped, ended, turned}
+use Rattle.framing.specs.Framing.{pushed, lastTen, octetOf, go, hunted, synced, bounded, stopped, ended, turned}
 use Rattle.listening.specs.Hearing.{changed, reported, told, acted}
-use Rattle.listening.proofs.Words.{hearing}
+use Rattle.framing.proofs.Words.{hearing}
 use Rattle.stretches.specs.Hearing.{Report, message}
 use Rattle.stretches.proofs.Each.{Each, none, more, Bits, bits-by}
 use Rattle.stretches.proofs.Sound.{Sound, sound-shape}

@@ -7,8 +7,10 @@ use denote.Ref.{now}
 use Rattle.listening.specs.Record.{Fits}
 use Rattle.listening.specs.Hearing.{changed, listened}
 use Rattle.listening.specs.declared.Listener.{Listener}
-use Rattle.listening.proofs.Acts.{changed-not}
-use Rattle.listening.proofs.Ranges.{StepFits, stepped-fits, changed-fits}
+use Rattle.framing.specs.Framing.{stepped}
+use Rattle.listening.proofs.Acts.{bit-steps, changed-not}
+use Rattle.framing.proofs.Ranges.{StepFits, stepped-fits}
+use Rattle.listening.proofs.Ranges.{changed-fits}
 use Rattle.listening.proofs.Many.{listened-end, listened-not-a-bit, listened-quiet, listened-told}
 use Rattle.listening.proofs.run.Statement.{statement}
 use Rattle.listening.proofs.run.Tie as tie
@@ -23,11 +25,17 @@ abbrev μ-loop : tie.MeasureT-loop
 abbrev held : (l : tie.At-loop Inv-loop μ-loop) → Listener
 held l = record { ear = l .loop .ear; msg = l .loop .msg; last = l .before .before .before .before .before .args .rec .last }
 
+-- a bit turns the ear as laid down
+turns : (t : tie.After-step Inv-loop μ-loop) → t .step .result ≡ stepped (t .before .before .before .before .loop .ear) (t .before .before .before .before .loop .msg .len) (getD (now (t .before .before .before .before .before .before .before .before .before .args .bits)) (t .before .before .before .before .loop .i) 0)
+turns t =
+    let l = t .before .before .before .before in
+    t .step .ensures ∙ bit-steps (l .loop .ear) (l .loop .msg .len) (getD (now (l .before .before .before .before .before .args .bits)) (l .loop .i) 0) (search needs)
+
 -- what a bit asks fits the record
 fitting : (t : tie.After-step Inv-loop μ-loop) → StepFits (t .before .before .before .before .loop .msg .len) (t .step .result)
 fitting t =
     let l = t .before .before .before .before in
-    rw (t .step .ensures) (stepped-fits (l .loop .ear) (l .loop .msg .len) (getD (now (l .before .before .before .before .before .args .bits)) (l .loop .i) 0) (l .loop .inv .0 .ear) (l .loop .inv .0 .msg .len))
+    rw (turns t) (stepped-fits (l .loop .ear) (l .loop .msg .len) (getD (now (l .before .before .before .before .before .args .bits)) (l .loop .i) 0) (l .loop .inv .0 .ear) (l .loop .inv .0 .msg .len))
 
 -- a bit that tells nothing
 quiet : (t : tie.After-step Inv-loop μ-loop) → t .step .result .act < 4
@@ -42,7 +50,7 @@ quiet : (t : tie.After-step Inv-loop μ-loop) → t .step .result .act < 4
 quiet t q =
     let l = t .before .before .before .before in
     let s = now (l .before .before .before .before .before .args .bits) in
-    l .loop .inv .1 ∙ listened-quiet (held l) s (l .loop .i) (l .loop .i) (search needs) (search needs) (t .step .result) (t .step .ensures) q
+    l .loop .inv .1 ∙ listened-quiet (held l) s (l .loop .i) (l .loop .i) (search needs) (search needs) (t .step .result) (turns t) q
 
 loop-holds : tie.Need-loop-holds Inv-loop μ-loop
 loop-holds c = (c .before .before .before .before .pre, refl)
@@ -60,7 +68,7 @@ returns c =
     rw (l .loop .inv .1 ∙ listened-not-a-bit (held l) s (l .loop .i) (l .loop .i) (search needs) (c .if1 .taken)) (record { heard = refl; rec = refl; taken = refl })
 
 step-requires : tie.Need-step-requires Inv-loop μ-loop
-step-requires c κs = (c .before .before .before .loop .inv .0 .ear, omega (arith, c .if1 .left))
+step-requires c κs = search needs
 
 finish-requires : tie.Need-finish-requires Inv-loop μ-loop
 finish-requires c κs =
@@ -73,7 +81,7 @@ returns-2 c =
     let t = c .before .before .before in
     let l = t .before .before .before .before in
     let s = now (l .before .before .before .before .before .args .bits) in
-    rw (l .loop .inv .1 ∙ listened-told (held l) s (l .loop .i) (l .loop .i) (search needs) (search needs) (t .step .result) (t .step .ensures) (c .before .if2 .taken)) (c .finish .ensures)
+    rw (l .loop .inv .1 ∙ listened-told (held l) s (l .loop .i) (l .loop .i) (search needs) (search needs) (t .step .result) (turns t) (c .before .if2 .taken)) (c .finish .ensures)
 
 change-requires : tie.Need-change-requires Inv-loop μ-loop
 change-requires c κs = fitting (c .before .before .before) .act .room

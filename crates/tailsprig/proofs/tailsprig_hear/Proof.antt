@@ -47,7 +47,7 @@ use denote.Triple.Clauses.{ensured, lasts}
 use denote.Triple.Table.{entered, cited}
 use denote.Triple.Walked.{says, Stays, stay-ref, stay-none, walkOf, AllGo, goes-none, goes-ref, Walks, ends-at, walked, walk-meets}
 use denote.Exit.{yes}
-use Rattle.listening.specs.declared.Ear.{Ear}
+use Rattle.framing.specs.declared.Ear.{Ear}
 use Rattle.listening.specs.declared.Message.{Message}
 use Rattle.listening.specs.declared.Listener.{Listener}
 use Rattle.halves.specs.declared.Light.{Light}
@@ -56,8 +56,8 @@ use Rattle.laws.specs.Choice.{choose}
 use Rattle.halves.specs.Halves.{lightOf, heavyOf}
 use Rattle.tailsprig.specs.Hearing.{storedOf, afterLight, hearOf}
 use Rattle.tailsprig.proofs.Parts.{hear-coded}
-use Rattle.listening.proofs.Ear as R
-use Rattle.listening.proofs.Ear.Laws as R′
+use Rattle.framing.proofs.Ear as R
+use Rattle.framing.proofs.Ear.Laws as R′
 use Rattle.listening.proofs.Message as N
 use Rattle.listening.proofs.Message.Laws as N′
 use Rattle.listening.proofs.Listener as T

@@ -1,9 +1,9 @@
-use Rattle.listening.specs.Framing.{bounded}
+use Rattle.framing.specs.Framing.{bounded}
 use borrow.Author.Tests.{eq-eqb, ne-eqb}
 use Rattle.laws.specs.Choice.{choose}
 use borrow.Author.Needs.{needs}
-use Rattle.listening.proofs.at_boundary.Statement.{statement}
-use Rattle.listening.proofs.at_boundary.Tie as tie
+use Rattle.framing.proofs.at_boundary.Statement.{statement}
+use Rattle.framing.proofs.at_boundary.Tie as tie
 
 turn-to-requires : tie.Need-turn-to-requires
 turn-to-requires c κs = search needs

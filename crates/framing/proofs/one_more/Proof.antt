@@ -1,9 +1,9 @@
-use Rattle.listening.specs.Framing.{more}
+use Rattle.framing.specs.Framing.{more}
 use borrow.Author.Tests.{lt-ltb, le-ltb}
 use Rattle.laws.specs.Choice.{choose}
 use borrow.Author.Needs.{needs}
-use Rattle.listening.proofs.one_more.Statement.{statement}
-use Rattle.listening.proofs.one_more.Tie as tie
+use Rattle.framing.proofs.one_more.Statement.{statement}
+use Rattle.framing.proofs.one_more.Tie as tie
 
 add-result : tie.Need-add-result
 add-result c = search needs

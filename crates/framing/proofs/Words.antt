@@ -12,7 +12,7 @@ use Rattle.octets.specs.declared.Kind.{Kind}
 use Rattle.octets.specs.declared.Kind.the-variants.{Ci, Menu}
 use Rattle.sequences.specs.Line.{framed, framedAll, tenOnes, sync, cj}
 use Rattle.sequences.specs.Tens.{syncTen}
-use Rattle.listening.specs.Framing.{pushed, lastTen, octetOf}
+use Rattle.framing.specs.Framing.{pushed, lastTen, octetOf}
 
 -- the past once these bits are heard
 abbrev pub hearing : ℕ → List ℕ → ℕ

@@ -8,9 +8,9 @@ use Rattle.laws.specs.Choice.{choose, both}
 use Rattle.octets.specs.declared.Kind.the-variants.{Ci, Menu}
 use Rattle.octets.specs.Octets.{bad}
 use Rattle.sequences.specs.Tens.{syncTen}
-use Rattle.listening.specs.declared.Ear.{Ear}
-use Rattle.listening.specs.declared.Turned.{Turned}
-use Rattle.listening.specs.declared.Stepped.{Stepped}
+use Rattle.framing.specs.declared.Ear.{Ear}
+use Rattle.framing.specs.declared.Turned.{Turned}
+use Rattle.framing.specs.declared.Stepped.{Stepped}
 
 -- the last 32 bits heard, the newest on top
 abbrev pub pushed : ℕ → ℕ → ℕ
@@ -141,3 +141,7 @@ stepped ear len bit =
     steppedTo (pushed (ear .past) bit) (more (ear .heard))
     (choose (isCj (pushed (ear .past) bit) (more (ear .heard))) (go hunting tellCj)
     (turned (ear .place) (ear .past) (pushed (ear .past) bit) len bit))
+
+-- an ear that nothing turns
+abbrev pub stay : Ear → ℕ → Stepped
+stay ear act = record { ear = ear; act = act }

@@ -1,9 +1,9 @@
-use Rattle.listening.specs.Framing.{synced}
+use Rattle.framing.specs.Framing.{synced}
 use borrow.Author.Tests.{eq-eqb, ne-eqb}
 use Rattle.laws.specs.Choice.{choose}
 use borrow.Author.Needs.{needs}
-use Rattle.listening.proofs.end_sync.Statement.{statement}
-use Rattle.listening.proofs.end_sync.Tie as tie
+use Rattle.framing.proofs.end_sync.Statement.{statement}
+use Rattle.framing.proofs.end_sync.Tie as tie
 
 turn-to-requires : tie.Need-turn-to-requires
 turn-to-requires c κs = search needs

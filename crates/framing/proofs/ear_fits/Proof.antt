@@ -1,7 +1,7 @@
 use borrow.Author.Tests.{le-leb, lt-leb}
 use Rattle.laws.specs.Choice.{both}
-use Rattle.listening.proofs.ear_fits.Statement.{statement}
-use Rattle.listening.proofs.ear_fits.Tie as tie
+use Rattle.framing.proofs.ear_fits.Statement.{statement}
+use Rattle.framing.proofs.ear_fits.Tie as tie
 
 returns : tie.Need-returns
 unfolding both

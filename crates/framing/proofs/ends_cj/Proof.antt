@@ -1,8 +1,8 @@
-use Rattle.listening.specs.Framing.{isCj}
+use Rattle.framing.specs.Framing.{isCj}
 use borrow.Author.Tests.{eq-eqb, ne-eqb}
 use Rattle.laws.specs.Choice.{both}
-use Rattle.listening.proofs.ends_cj.Statement.{statement}
-use Rattle.listening.proofs.ends_cj.Tie as tie
+use Rattle.framing.proofs.ends_cj.Statement.{statement}
+use Rattle.framing.proofs.ends_cj.Tie as tie
 
 returns : tie.Need-returns
 unfolding both isCj

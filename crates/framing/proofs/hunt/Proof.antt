@@ -1,8 +1,8 @@
-use Rattle.listening.specs.Framing.{hunted}
+use Rattle.framing.specs.Framing.{hunted}
 use borrow.Author.Tests.{eq-eqb, ne-eqb}
 use Rattle.laws.specs.Choice.{choose, both}
-use Rattle.listening.proofs.hunt.Statement.{statement}
-use Rattle.listening.proofs.hunt.Tie as tie
+use Rattle.framing.proofs.hunt.Statement.{statement}
+use Rattle.framing.proofs.hunt.Tie as tie
 
 returns : tie.Need-returns
 unfolding choose both hunted

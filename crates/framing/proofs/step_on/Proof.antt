@@ -1,8 +1,8 @@
-use Rattle.listening.specs.Framing.{stepped}
+use Rattle.framing.specs.Framing.{stepped}
 use Rattle.laws.specs.Choice.{choose}
 use borrow.Author.Needs.{needs}
-use Rattle.listening.proofs.step.Statement.{statement}
-use Rattle.listening.proofs.step.Tie as tie
+use Rattle.framing.proofs.step_on.Statement.{statement}
+use Rattle.framing.proofs.step_on.Tie as tie
 
 push-requires : tie.Need-push-requires
 push-requires c κs = search needs
@@ -24,7 +24,7 @@ returns-2 : tie.Need-returns-2
 unfolding choose stepped
 returns-2 c = simp (c .turn .ensures, c .before .if1 .left, ← c .before .before .ends-cj .ensures, ← c .before .before .before .one-more .ensures, ← c .before .before .before .before .push .ensures)
 
-pub step-spec : {M : Type 1} → statement M
-step-spec =
+pub step-on-spec : {M : Type 1} → statement M
+step-on-spec =
     tie.close
     (tie.spec push-requires one-more-requires ends-cj-requires returns turn-requires returns-2)
