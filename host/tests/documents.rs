@@ -76,38 +76,40 @@ fn public_functions(source: &str) -> BTreeMap<String, Function> {
     found
 }
 
-/// What definitions, laws, functions, types and constants are called in the crates, and what wrong programs and tests are.
-fn names() -> BTreeSet<String> {
+/// What definitions, laws, functions, types, constants and wrong programs are called in a crate.
+fn names_in(krate: &str) -> BTreeSet<String> {
     let mut names = BTreeSet::new();
     let is_name = |c: char| !c.is_whitespace() && !"(){};,:".contains(c);
-    for krate in crates() {
-        let folder = root().join("crates").join(&krate);
-        names.insert(krate.clone());
-        for path in files(&folder) {
-            let stem = path.file_stem().unwrap_or_default().to_string_lossy().to_string();
-            match path.extension().and_then(|e| e.to_str()) {
-                Some("antt") => {
-                    names.insert(path.file_name().unwrap_or_default().to_string_lossy().to_string());
-                    for line in read(&path).lines() {
-                        let line = line.trim_start();
-                        let line = line.strip_prefix("abbrev ").or_else(|| line.strip_prefix("unfoldable ")).unwrap_or(line);
-                        let line = line.strip_prefix("pub ").unwrap_or(line);
-                        let line = line.strip_prefix("record ").or_else(|| line.strip_prefix("data ")).unwrap_or(line);
-                        let name: String = line.chars().take_while(|c| is_name(*c)).collect();
-                        if line[name.len()..].trim_start().starts_with([':', '(']) {
-                            names.insert(name);
-                        }
+    for path in files(&root().join("crates").join(krate)) {
+        let stem = path.file_stem().unwrap_or_default().to_string_lossy().to_string();
+        match path.extension().and_then(|e| e.to_str()) {
+            Some("antt") => {
+                names.insert(path.file_name().unwrap_or_default().to_string_lossy().to_string());
+                for line in read(&path).lines() {
+                    let line = line.trim_start();
+                    let line = line.strip_prefix("abbrev ").or_else(|| line.strip_prefix("unfoldable ")).unwrap_or(line);
+                    let line = line.strip_prefix("pub ").unwrap_or(line);
+                    let line = line.strip_prefix("record ").or_else(|| line.strip_prefix("data ")).unwrap_or(line);
+                    let name: String = line.chars().take_while(|c| is_name(*c)).collect();
+                    if line[name.len()..].trim_start().starts_with([':', '(']) {
+                        names.insert(name);
                     }
                 }
-                Some("edit") => {
-                    names.insert(stem);
-                }
-                Some("rt") => names.extend(declared(&read(&path))),
-                _ => {
-                    names.insert(stem);
-                }
+            }
+            Some("rt") => names.extend(declared(&read(&path))),
+            _ => {
+                names.insert(stem);
             }
         }
+    }
+    names
+}
+
+/// What is called something in the crates, and what tests and programs of the host are.
+fn names() -> BTreeSet<String> {
+    let mut names: BTreeSet<String> = crates().into_iter().collect();
+    for krate in crates() {
+        names.extend(names_in(&krate));
     }
     for path in files(&root().join("host/tests")).iter().chain(&files(&root().join("host/src"))) {
         names.insert(path.file_stem().unwrap_or_default().to_string_lossy().to_string());
@@ -181,6 +183,30 @@ fn every_name_in_a_table_of_promises_stands_for_something() {
         })
         .collect();
     assert!(missing.is_empty(), "nothing is called {missing:?}");
+}
+
+#[test]
+fn a_name_that_is_said_to_be_of_a_crate_stands_in_it() {
+    let crates: BTreeMap<String, BTreeSet<String>> =
+        crates().into_iter().map(|krate| (krate.clone(), names_in(&krate))).collect();
+    let text = read(&root().join("docs/PROMISES.md"));
+    let mut wrong = Vec::new();
+    for part in text.lines().filter(|line| line.starts_with('|')).flat_map(|line| line.split(['|', ';'])) {
+        let Some(names) = part.split_whitespace().next().and_then(|krate| crates.get(krate.trim_end_matches(':'))) else {
+            continue;
+        };
+        let lacking = |name: &&str| !name.contains(['/', '.', ':']) && !names.contains(*name);
+        wrong.extend(quoted(part).filter(lacking).map(|name| format!("{name} in '{}'", part.trim())));
+    }
+    for (name, krate) in text.lines().filter(|line| line.starts_with('|')).flat_map(quoted).filter_map(|name| {
+        let (krate, name) = name.split_once("::")?;
+        Some((name, krate))
+    }) {
+        if !crates.get(krate).is_some_and(|names| names.contains(name)) {
+            wrong.push(format!("{krate}::{name}"));
+        }
+    }
+    assert!(wrong.is_empty(), "not there: {wrong:#?}");
 }
 
 /// The words of a text, without what sets them off.
