@@ -3,6 +3,7 @@
  * side understood, and exits with 1 where a call that both can agree on went otherwise.
  */
 #include "our_end.h"
+#include "probes.h"
 #include "their_end.h"
 #include "words.h"
 
@@ -73,6 +74,12 @@ static const struct call CALLS[] = {
      .modes = {1, 0, V34 | V32BIS | V22BIS | V21},
      .lapm = true,
      .theirs = SPANDSP_DATA(.modulations = V8_MOD_V32 | V8_MOD_V22)},
+    {.name = "LAPM that we did not offer",
+     .we_call = true,
+     .function = DATA,
+     .modes = {1, 0, V34 | V32BIS},
+     .theirs = SPANDSP_DATA(.modulations = V8_MOD_V34 | V8_MOD_V32, .protocol = V8_PROTOCOL_LAPM_V42),
+     .narrows = true},
     {.name = "fax, V.17",
      .we_call = true,
      .function = FAX_SENT,
@@ -250,6 +257,8 @@ static const char *difference_of(const struct outcome *outcome)
         return "it misread our menu";
     if (ours->choice == -TAILSPRIG_NOT_OFFERED)
         return "its JM claims what CM did not offer";
+    if (!theirs->caller && outcome->heard.lapm && !ours->record.lapm)
+        return "its JM says LAPM, which CM did not";
     if (meant & ~outcome->heard.items)
         return "its menu leaves out a mode that it has";
     if (theirs->caller && theirs->own.pcm_modem_availability != outcome->heard.pcm)
@@ -326,6 +335,7 @@ int main(void)
     print_menus(outcomes);
     print_endings(outcomes);
     printf("\n");
-    int failures = count_failures(outcomes);
+    int failures = run_probes() + count_failures(outcomes);
+    printf(failures == 0 ? "\nas expected\n" : "\n%d not as expected\n", failures);
     return failures == 0 ? 0 : 1;
 }

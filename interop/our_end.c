@@ -18,10 +18,10 @@ static void send_cj(struct our_end *end)
     v21_send(&end->sender, bits, (size_t)tailsprig_write_cj(bits, sizeof bits), false);
 }
 
-/* What a state sends. Menus go on without end: a peer may need more copies than we do. */
-static void enter(struct our_end *end, int32_t state)
+/* What the state sends that was just entered. Menus go on without end: a peer may need more copies than we do. */
+static void send_for_state(struct our_end *end)
 {
-    switch (state) {
+    switch (end->session.state) {
     case TAILSPRIG_STATE_CALLING:
         send_message(end, TAILSPRIG_CI, end->sent.octets, 1, CI_COPIES, false);
         break;
@@ -32,15 +32,10 @@ static void enter(struct our_end *end, int32_t state)
     case TAILSPRIG_STATE_CLOSING:
         send_cj(end);
         break;
-    case TAILSPRIG_STATE_QUIET:
-    case TAILSPRIG_STATE_PAUSE:
-        v21_stop(&end->sender);
-        break;
     default:
+        v21_stop(&end->sender);
         break;
     }
-    if (end->session.ended != TAILSPRIG_ENDED_GOING)
-        v21_stop(&end->sender);
 }
 
 static void take(struct our_end *end, uint8_t event, int32_t value)
@@ -48,7 +43,7 @@ static void take(struct our_end *end, uint8_t event, int32_t value)
     struct tailsprig_step_taken step = tailsprig_step(end->session, event, value, end->now);
     end->session = step.session;
     if (step.code > 0)
-        enter(end, step.code);
+        send_for_state(end);
 }
 
 static void take_agreed_menu(struct our_end *end)
@@ -104,7 +99,6 @@ void our_end_start(struct our_end *end, uint8_t which, struct tailsprig_record r
     end->listener = tailsprig_fresh();
     end->session = caller ? tailsprig_start_caller_default(0) : tailsprig_start_answerer(0);
     end->record = record;
-    end->function = function;
     if (caller) {
         int32_t len = tailsprig_cm(record, function, end->sent.octets, sizeof end->sent.octets);
         end->sent.len = len > 0 ? (size_t)len : 0;
@@ -137,6 +131,7 @@ void our_end_speak(struct our_end *end, int16_t audio[BLOCK_SAMPLES])
 
 void our_end_hear(struct our_end *end, const int16_t audio[BLOCK_SAMPLES])
 {
+    /* Started with the state: a tone told of before it would be answered 'same', and not told of again. */
     if (end->session.state == TAILSPRIG_STATE_CALLING)
         modem_connect_tones_rx(end->tone_detector, audio, BLOCK_SAMPLES);
     fsk_rx(end->demodulator, audio, BLOCK_SAMPLES);

@@ -14,10 +14,9 @@ struct our_end {
     struct tailsprig_session session;
     struct tailsprig_listener listener;
     struct tailsprig_record record;
-    uint8_t function; /* what a caller asks for */
-    uint32_t now;     /* milliseconds of audio so far */
+    uint32_t now; /* milliseconds of audio so far */
 
-    struct menu sent;
+    struct menu sent;  /* a caller's CM; an answerer's JM, once a CM is agreed */
     struct menu heard; /* the agreed one */
     int32_t choice;    /* what tailsprig_choice answered */
     int ci_heard;
@@ -28,7 +27,7 @@ struct our_end {
     modem_connect_tones_rx_state_t *tone_detector;
 };
 
-/* A call from time 0 on. An answerer asks for no function. */
+/* A call from time 0 on. The function is what a caller asks for. */
 void our_end_start(struct our_end *end, uint8_t which, struct tailsprig_record record, uint8_t function);
 void our_end_free(struct our_end *end);
 
