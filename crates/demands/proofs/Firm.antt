@@ -1,22 +1,20 @@
 -- None of the wrong programs that document 01 names meets the definitions: each fails on an input that is computed.
 -- Assumes nothing.
-use Prim.Native.Nat.{ℕ, suc}
+use Prim.Native.Nat.{ℕ}
 use native.Mathlib.Omega.{arith}
 use mathlib.Core.Path.{_≡_, refl, sym, ap, _∙_}
-use mathlib.Core.Bool.{Bool, true, false}
 use mathlib.Core.List.{List, [], _∷_, _++_}
 use lib.ListN.{length, replicate}
 use Rattle.laws.specs.Choice.{choose, both, either}
 use Rattle.laws.specs.Tests.{sameList}
 use Rattle.laws.proofs.Chosen.{clash}
-use Rattle.octets.specs.declared.Kind.{Kind}
 use Rattle.octets.specs.declared.Kind.the-variants.{Ci, Menu}
 use Rattle.octets.specs.Lists.{firstFault, untilCategory}
 use Rattle.octets.specs.Lent.{Said, count, refusal, put}
 use Rattle.sequences.specs.Line.{framed, framedAll, tenOnes, sequence, copies}
 use Rattle.listening.specs.declared.Listener.{Listener}
 use Rattle.framing.specs.Framing.{more, isCj, hunted, synced, bounded, stopped, ended, turned, stepped}
-use Rattle.listening.specs.Hearing.{Told, changed, agreed, reported, told, acted, heardIn}
+use Rattle.listening.specs.Hearing.{changed, agreed, reported, told, acted, heardIn}
 use Rattle.listening.specs.Record.{fresh}
 use Rattle.stretches.specs.Hearing.{Report, message, cj, reports}
 use Rattle.stretches.specs.Hearing as stretched
@@ -25,10 +23,10 @@ use Rattle.menus.specs.Groups.{firstGroup, frontPart, groupOf}
 use Rattle.menus.specs.Offer.{Read, offers, menuRead}
 use Rattle.menus.specs.Offer as menus
 use Rattle.drafts.specs.Drafts.{paired}
-use Rattle.choices.specs.Choosing.{Chosen, none, item, lowestFrom, pcmChoice, itemChoice, chosenFrom, choiceOf}
+use Rattle.choices.specs.Choosing.{lowestFrom, pcmChoice, itemChoice, chosenFrom}
 use Rattle.demands.proofs.Settled.{kindOf}
 use Rattle.demands.specs.Worked.{cmOfA}
-use Rattle.demands.specs.Firm.{refused, unwritten, Firm}
+use Rattle.demands.specs.Firm.{refused, Firm}
 
 -- a fresh record hears a bit in silence and refuses a byte that is none
 abbrev heardCount : Listener → ℕ

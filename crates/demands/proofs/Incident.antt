@@ -1,23 +1,23 @@
 -- What V.8 does not define, put into a menu at a group's end, changes nothing that the reader says.
 -- Assumes nothing.
-use Prim.Native.Nat.{ℕ, zero, suc, _<_, _≤_, _+_}
+use Prim.Native.Nat.{ℕ, _<_, _≤_, _+_}
 use native.Mathlib.Omega.{arith}
 use mathlib.Core.Path.{_≡_, refl, sym, ap, ap₂, subst, _∙_}
 use mathlib.Core.Bool.{Bool, true, false, not}
 use mathlib.Core.List.{List, [], _∷_, _++_, append-assoc}
 use borrow.Author.Tests.{not-true, lt-ltb, eqb-true}
 use lib.Dec.{eqb}
-use lib.ListN.{length, getD, length-append, List·getD-append}
+use lib.ListN.{length, getD, List·getD-append}
 use Rattle.laws.specs.Choice.{choose, both}
 use Rattle.laws.specs.Tests.{every}
-use Rattle.laws.proofs.Chosen.{both-true, clash}
+use Rattle.laws.proofs.Chosen.{both-true}
 use Rattle.octets.specs.declared.Purpose.the-variants.{Reading}
 use Rattle.octets.specs.Octets.{category, tag, options, extension}
 use Rattle.octets.specs.Lists.{before, firstFault, listFault, groupEnds}
 use Rattle.octets.proofs.Lists.{accepted-opens, accepted-rest, faultless, faultless-parts, group-starts}
 use Rattle.octets.proofs.Fine.{extensions-fine, group-fine, accepted-by}
 use Rattle.menus.specs.declared.Offer.{Offer}
-use Rattle.items.specs.Items.{placeOf, bitOf, hasItem, setOf, itemsOf}
+use Rattle.items.specs.Items.{placeOf, bitOf, hasItem, itemsOf}
 use Rattle.menus.specs.Groups.{opensGroup, groupOf, optionsIn}
 use Rattle.menus.specs.Offer.{Read, modulation, pcmTag, protocol, access, stands, offerOf, menuRead, offers}
 use Rattle.menus.proofs.Joined.{groupFrom, orElse, group-from, group-joined, lone-group}

@@ -1,12 +1,11 @@
 -- The JM that is made holds exactly what is shared, and what is made reads back as it was meant.
 -- Assumes nothing.
-use Prim.Native.Nat.{ℕ, _<_, _+_, _*_, _/_, _%_}
+use Prim.Native.Nat.{ℕ, _<_, _*_}
 use native.Mathlib.Nat.{one-mul}
 use native.Mathlib.Omega.{arith}
 use mathlib.Core.Path.{_≡_, refl, sym, ap, ap₂, _∙_}
 use mathlib.Core.Bool.{Bool, true, false}
 use mathlib.Core.List.{List}
-use lib.Bits.{bitAnd}
 use lib.Dec.{ltb, lit<}
 use Rattle.laws.specs.Choice.{choose, both}
 use Rattle.menus.specs.declared.Offer.{Offer}

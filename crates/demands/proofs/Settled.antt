@@ -1,6 +1,6 @@
 -- Where menus arrive as sent both ends name the same choice, never one that was not offered, and none exactly where nothing is shared.
 -- Assumes nothing.
-use Prim.Native.Nat.{ℕ, zero, suc, _<_, _≤_, _+_, _*_, _/_, _%_}
+use Prim.Native.Nat.{ℕ, zero, suc, _<_, _≤_, _+_, _/_, _%_}
 use native.Mathlib.Nat.{eq-or-lt-of-le}
 use native.Mathlib.Omega.{arith}
 use mathlib.Core.Path.{_≡_, refl, sym, ap, ap₂, subst, _∙_}
@@ -17,7 +17,7 @@ use Rattle.octets.specs.declared.Refusal.the-variants.{NotOffered}
 use Rattle.octets.specs.Refusals.{number}
 use Rattle.menus.specs.declared.Offer.{Offer}
 use Rattle.items.specs.Items.{inSet}
-use Rattle.menus.specs.Offer.{offerOf, menuRead, Read}
+use Rattle.menus.specs.Offer.{Read}
 use Rattle.items.proofs.Bits.{in-both}
 use Rattle.items.proofs.Sets.{none-in}
 use Rattle.records.specs.declared.Modes.{Modes}
@@ -27,7 +27,7 @@ use Rattle.records.proofs.Good.{good-modes, none-used}
 use Rattle.drafts.specs.Drafts.{cmOffer, paired, withItem1, sharedItems, jmPcm, jmOffer}
 use Rattle.choices.specs.Choosing.{Chosen, none, item, pcm, refusal, lowest, lowestFrom, pcmChoice, itemChoice, chosenFrom, onRead, choiceFor, choiceOf}
 use Rattle.offers.proofs.Making.{jm-says}
-use Rattle.demands.specs.Joint.{Accepted, cmOf, jmOf, hasFor, pcmFor, Call, NothingShared, callerNames, answererNames, Settled}
+use Rattle.demands.specs.Joint.{cmOf, jmOf, hasFor, Call, NothingShared, callerNames, Settled}
 use Rattle.demands.proofs.Shared.{lowest-in}
 use Rattle.demands.proofs.Joint.{cm-back, cm-round-trip, jm-round-trip, beside-item-0, has-used}
 

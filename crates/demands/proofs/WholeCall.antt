@@ -1,6 +1,6 @@
 -- Events in their order lead each end to the end of its session; with the menus as sent, both to the same one.
 -- Assumes nothing.
-use Prim.Native.Nat.{ℕ, _<_, _+_}
+use Prim.Native.Nat.{ℕ, _<_}
 use native.Mathlib.Omega.{arith}
 use mathlib.Core.Path.{_≡_, refl, sym, ap, ap₂, subst, _∙_}
 use mathlib.Core.Bool.{Bool, true, false, not}
@@ -11,7 +11,7 @@ use Rattle.steps.proofs.Known.{is-so}
 use Rattle.laws.specs.Choice.{choose, both, either}
 use Rattle.laws.specs.Tests.{every, allBelow}
 use Rattle.laws.proofs.Computed.{below}
-use Rattle.laws.proofs.Chosen.{chosen, both-true, clash}
+use Rattle.laws.proofs.Chosen.{chosen, both-true}
 use Rattle.choices.specs.Choosing.{Chosen, none, item, pcm, choiceOf}
 use Rattle.choices.specs.Choosing as choosing
 use Rattle.steps.specs.declared.Session.{Session}
@@ -25,7 +25,7 @@ use Rattle.steps.proofs.Runs.{stays-over}
 use Rattle.records.specs.declared.Record.{Record}
 use Rattle.demands.specs.Joint.{cmOf, jmOf, Call, callerNames, answererNames, Settled}
 use Rattle.demands.proofs.Settled.{kindOf, choice-case, settled}
-use Rattle.demands.specs.WholeCall.{carried, Due, inTime, InOrder, all, waiting, comes, lastTick, callerOrder, answererOrder, EndsWith, Ends}
+use Rattle.demands.specs.WholeCall.{carried, Due, inTime, InOrder, waiting, comes, lastTick, callerOrder, answererOrder, EndsWith, Ends}
 
 -- an event that is answered "same" leaves the session as it is
 abbrev moves : Answered → ℕ

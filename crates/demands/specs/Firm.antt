@@ -3,7 +3,7 @@
 use Prim.Native.Nat.{ℕ}
 use mathlib.Core.Path.{_≡_}
 use mathlib.Core.Bool.{Bool, true, false}
-use mathlib.Core.List.{List, [], _∷_}
+use mathlib.Core.List.{List, _∷_}
 use Rattle.octets.specs.declared.Kind.{Kind}
 use Rattle.octets.specs.Lent.{Said, count}
 use Rattle.octets.specs.Lent as lent

@@ -3,17 +3,17 @@
 use Prim.Native.Nat.{ℕ, _+_}
 use mathlib.Core.Path.{_≡_}
 use mathlib.Core.Bool.{Bool, true}
-use mathlib.Core.List.{List, [], _∷_, _++_}
+use mathlib.Core.List.{List, [], _∷_}
 use lib.Dec.{leb, ltb, eqb}
 use Rattle.laws.specs.Choice.{choose, both}
 use Rattle.records.specs.declared.Record.{Record}
 use Rattle.choices.specs.Choosing.{Chosen, none, item, pcm, refusal}
 use Rattle.steps.specs.declared.Session.{Session}
 use Rattle.steps.specs.Table.{over, cleared, goesOn, ansam, agreedJm, cjSent, agreedCm, cj, tick}
-use Rattle.steps.specs.Session.{isTe, isMode, callerFrom, answererFrom}
+use Rattle.steps.specs.Session.{isMode, callerFrom, answererFrom}
 use Rattle.steps.specs.Stepping.{same, elapsed, refusedWith11}
 use Rattle.steps.specs.Runs.{Timed, next, run}
-use Rattle.demands.specs.Joint.{NothingShared, callerNames, answererNames}
+use Rattle.demands.specs.Joint.{NothingShared}
 
 -- the number with which an agreed menu carries a choice
 abbrev pub carried : Chosen → ℕ

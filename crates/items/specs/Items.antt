@@ -5,8 +5,6 @@ use mathlib.Core.List.{List, [], _∷_}
 use lib.Dec.{eqb}
 use lib.ListN.{getD}
 use Rattle.laws.specs.Choice.{choose}
-use Rattle.items.specs.declared.Bit.{Bit}
-use Rattle.items.specs.declared.Item.{Item}
 use Rattle.items.specs.declared.ItemPlace.{ItemPlace}
 
 abbrev at : ℕ → ℕ → ItemPlace

@@ -2,10 +2,10 @@
 -- Assumes nothing.
 use Prim.Native.Nat.{ℕ, _≤_}
 use native.Mathlib.Omega.{arith}
-use mathlib.Core.Path.{_≡_, refl, sym, ap, _∙_}
+use mathlib.Core.Path.{_≡_}
 use mathlib.Core.Logic.{⊎-elim}
 use borrow.Author.Tests.{le-ltb, eq-eqb, ne-eqb}
-use lib.Dec.{ltb, eqb}
+use lib.Dec.{ltb}
 use Rattle.laws.specs.Choice.{choose}
 use Rattle.framing.specs.declared.Ear.{Ear}
 use Rattle.framing.specs.declared.Stepped.{Stepped}

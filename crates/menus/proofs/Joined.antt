@@ -1,14 +1,13 @@
 -- Groups of a message that is put together from parts: the first part that has a group of the tag gives it.
 -- Assumes nothing.
-use Prim.Native.Nat.{ℕ, zero, suc, _+_}
-use native.Mathlib.Numerals.{add-one}
+use Prim.Native.Nat.{ℕ, suc, _+_}
 use native.Mathlib.Omega.{arith}
 use mathlib.Core.Path.{_≡_, refl, sym, ap, _∙_}
 use mathlib.Core.Bool.{Bool, true, false}
 use mathlib.Core.List.{List, [], _∷_, _++_}
 use borrow.Author.Tests.{eqb-true, ne-eqb}
-use lib.ListN.{length, take, drop}
-use lib.Seq.{drop-drop, take-length}
+use lib.ListN.{take, drop}
+use lib.Seq.{drop-drop}
 use Rattle.laws.specs.Choice.{choose, both}
 use Rattle.laws.specs.Tests.{every}
 use Rattle.laws.proofs.Chosen.{both-true}

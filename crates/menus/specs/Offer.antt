@@ -3,11 +3,10 @@ use Prim.Native.Nat.{ℕ}
 use mathlib.Core.Bool.{Bool}
 use mathlib.Core.List.{List}
 use lib.Dec.{ltb, eqb}
-use lib.ListN.{length, getD}
+use lib.ListN.{length}
 use Rattle.laws.specs.Choice.{choose}
 use Rattle.octets.specs.declared.Purpose.the-variants.{Reading}
 use Rattle.octets.specs.Refusals.{number}
-use Rattle.octets.specs.Octets.{options}
 use Rattle.octets.specs.Lists.{listFault}
 use Rattle.menus.specs.declared.Offer.{Offer}
 use Rattle.menus.specs.declared.Menu.{Menu}

@@ -2,8 +2,8 @@
 -- Assumes nothing.
 use Prim.Native.Nat.{ℕ, _+_, _<_}
 use mathlib.Core.Path.{_≡_}
-use mathlib.Core.Bool.{Bool, true, false}
-use lib.Dec.{T, eqb, eqb→eq}
+use mathlib.Core.Bool.{Bool}
+use lib.Dec.{eqb, eqb→eq}
 use Rattle.laws.specs.Choice.{choose, both, either}
 use Rattle.laws.specs.Tests.{allBelow}
 use Rattle.laws.proofs.Computed.{below}

@@ -3,7 +3,7 @@
 use Prim.Native.Nat.{ℕ, _-_}
 use native.Mathlib.Omega.{arith}
 use mathlib.Core.Path.{_≡_, refl, sym, ap, _∙_}
-use mathlib.Core.List.{List, [], _∷_}
+use mathlib.Core.List.{[], _∷_}
 use lib.ListN.{getD}
 use Rattle.octets.specs.declared.Refusal.{Refusal}
 use Rattle.octets.specs.declared.Refusal.the-variants.{NotABit, StopBitZero, BadOctet, TooManyOctets, NoCallFunction, ShortBuffer, AfterOver, Clock, WrongEvent, BadRecord, NotOffered, WrongCategory, CutShort}

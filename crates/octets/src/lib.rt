@@ -1,7 +1,7 @@
 // The bits of an octet, the kinds of octets, the refusals with their numbers, and the tests of an octet list.
 ghost use mathlib.Core.Path.{_≡_};
-ghost use Prim.Native.Nat.{_+_, _≤_};
-ghost use lib.ListN.{length, drop};
+ghost use Prim.Native.Nat.{_+_};
+ghost use lib.ListN.{drop};
 ghost use Rattle.laws.specs.Tests.{sameList};
 ghost use Rattle.octets.specs.Refusals.{number, fault};
 ghost use Rattle.octets.specs.Octets.{category, tag, options, bad};

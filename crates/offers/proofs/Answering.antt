@@ -2,7 +2,7 @@
 -- Assumes nothing.
 use Prim.Native.Nat.{ℕ, _<_, _+_, _*_}
 use native.Mathlib.Omega.{arith}
-use mathlib.Core.Path.{_≡_, refl, sym, ap, _∙_}
+use mathlib.Core.Path.{_≡_, refl, sym, ap}
 use mathlib.Core.Bool.{Bool, true, false}
 use mathlib.Core.List.{List, [], _∷_}
 use borrow.Author.Tests.{eqb-true, eq-eqb}
@@ -11,7 +11,7 @@ use Rattle.laws.specs.Choice.{choose, both}
 use Rattle.laws.proofs.Chosen.{both-true, clash}
 use Rattle.octets.specs.declared.Purpose.the-variants.{Reading}
 use Rattle.octets.specs.Octets.{b4, tag, options}
-use Rattle.octets.specs.Lists.{opens, listFault}
+use Rattle.octets.specs.Lists.{opens}
 use Rattle.octets.proofs.Lists.{accepted-opens}
 use Rattle.menus.specs.Groups.{optionsIn}
 use Rattle.menus.specs.Offer.{offerOf}

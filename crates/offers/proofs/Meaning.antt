@@ -1,21 +1,19 @@
 -- A menu that says an offer is accepted, by the reader and by the writer, and read back as that offer.
 -- Assumes nothing.
-use Prim.Native.Nat.{ℕ, _<_, _≤_, _+_, _*_, _%_}
+use Prim.Native.Nat.{ℕ, _<_, _+_, _%_}
 use native.Mathlib.Omega.{arith}
 use mathlib.Core.Path.{_≡_, refl, sym, ap, _∙_}
 use mathlib.Core.Bool.{Bool, true, false}
 use mathlib.Core.List.{List, [], _∷_, _++_}
-use borrow.Author.Tests.{le-ltb, ltb-false, eqb-true, eq-eqb, ne-eqb}
+use borrow.Author.Tests.{ltb-false, ne-eqb}
 use lib.Dec.{ltb, eqb, lit<}
-use lib.ListN.{length, drop}
-use Rattle.laws.specs.Choice.{choose, both, either}
+use Rattle.laws.specs.Choice.{choose}
 use Rattle.laws.specs.Tests.{every}
-use Rattle.laws.proofs.Chosen.{chosen, both-true}
 use Rattle.octets.specs.declared.Kind.the-variants.{Menu}
 use Rattle.octets.specs.declared.Purpose.{Purpose}
 use Rattle.octets.specs.declared.Purpose.the-variants.{Reading, Writing}
-use Rattle.octets.specs.Octets.{b3, b4, b5, category, tag, extension, bad}
-use Rattle.octets.specs.Lists.{before, categoryFault, octetFault, firstFault, opens, listFault}
+use Rattle.octets.specs.Octets.{tag}
+use Rattle.octets.specs.Lists.{categoryFault, firstFault, listFault}
 use Rattle.octets.proofs.Lists.{faultless}
 use Rattle.octets.proofs.Fine.{group-fine, accepted-by}
 use Rattle.menus.specs.declared.Offer.{Offer}

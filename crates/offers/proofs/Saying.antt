@@ -1,15 +1,15 @@
 -- What is made from a record that is not bad can be said in a menu, and so it is read back as it was meant.
 -- Assumes nothing.
-use Prim.Native.Nat.{ℕ, _<_, _≤_, _+_, _*_, _/_, _%_}
+use Prim.Native.Nat.{ℕ, _<_}
 use native.Mathlib.Nat.{lt-of-le-of-lt}
 use native.Mathlib.Omega.{arith}
-use mathlib.Core.Path.{_≡_, refl, sym, ap, _∙_}
-use mathlib.Core.Bool.{Bool, true, false}
-use borrow.Author.Tests.{ltb-false, eqb-true}
-use lib.Bits.{bitAnd, and-le-l}
-use lib.Dec.{ltb, eqb, lit<}
+use mathlib.Core.Path.{_≡_}
+use mathlib.Core.Bool.{Bool, false}
+use borrow.Author.Tests.{ltb-false}
+use lib.Bits.{and-le-l}
+use lib.Dec.{ltb}
 use lib.ListN.{length}
-use Rattle.laws.specs.Choice.{choose, either}
+use Rattle.laws.specs.Choice.{choose}
 use Rattle.laws.proofs.Chosen.{chosen, either-false}
 use Rattle.menus.specs.declared.Offer.{Offer}
 use Rattle.records.specs.declared.Record.{Record}

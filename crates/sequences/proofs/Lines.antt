@@ -8,7 +8,7 @@ use mathlib.Core.Path.{_≡_, refl, sym, ap, _∙_}
 use mathlib.Core.Bool.{Bool}
 use mathlib.Core.List.{List, [], _∷_, _++_, append-assoc, append-nil}
 use lib.Dec.{lit<}
-use lib.ListN.{length, take, drop, getD, length-append, length-take}
+use lib.ListN.{length, take, drop, getD, length-append}
 use lib.Seq.{drop-cons, length-take-le, take-add}
 use borrow.Rule.Slice.PartMut.{putMid}
 use Rattle.laws.specs.Choice.{both}

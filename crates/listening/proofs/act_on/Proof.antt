@@ -1,7 +1,5 @@
 use Rattle.listening.specs.Hearing.{acted}
 use Rattle.listening.proofs.Acts.{acted-report, acted-other}
-use borrow.Author.Tests.{eq-eqb, ne-eqb}
-use Rattle.laws.specs.Choice.{choose}
 use borrow.Author.Needs.{needs}
 use Rattle.listening.proofs.act_on.Statement.{statement}
 use Rattle.listening.proofs.act_on.Tie as tie

@@ -4,13 +4,12 @@ use denote.Ref.{now}
 use lib.ListN.{take, drop, length-drop}
 use Prim.Native.Nat.{_<_, _+_}
 use Rattle.laws.proofs.Rest.{rest-of}
-use Rattle.listening.specs.declared.Listener.{Listener}
-use Rattle.listening.specs.Hearing.{Many, listened}
+use Rattle.listening.specs.Hearing.{Many}
 use Rattle.listening.proofs.Many.{listened-takes, listened-fits, many-in}
 use borrow.Author.Needs.{needs}
 use native.Mathlib.Omega.{arith}
 use Prim.Native.Nat.{_≤_, _-_}
-use mathlib.Core.Path.{_≡_, refl}
+use mathlib.Core.Path.{_≡_}
 use lib.ListN.{length}
 use Rattle.listening.specs.Record.{Fits}
 use Rattle.listing.proofs.list.Statement.{statement}

@@ -1,6 +1,5 @@
 use borrow.Author.Needs.{needs}
-use native.Mathlib.Omega.{arith}
-use Prim.Native.Nat.{_≤_, _-_}
+use Prim.Native.Nat.{_-_}
 use mathlib.Core.Path.{_≡_, refl, sym, _∙_}
 use lib.ListN.{length, drop}
 use denote.Ref.{now}
@@ -8,8 +7,6 @@ use Rattle.laws.specs.Tests.{sameList}
 use Rattle.laws.proofs.Same.{same-lengths, same-on, same-stop, same-end}
 use Rattle.octets.proofs.same.Statement.{statement}
 use Rattle.octets.proofs.same.Tie as tie
-use Rattle.octets.proofs.same.Reads as reads
-use Rattle.octets.proofs.same.Lts as lts
 
 abbrev Inv-loop : tie.InvT-loop
 Inv-loop a b i₀ i = (length a ≡ length b) × (sameList a b ≡ sameList (drop i a) (drop i b))

@@ -1,19 +1,18 @@
 use borrow.Author.Needs.{needs}
 use native.Mathlib.Omega.{arith}
-use Prim.Native.Nat.{suc, _<_, _-_, _+_, _*_}
+use Prim.Native.Nat.{_<_, _-_, _+_, _*_}
 use mathlib.Core.Path.{_≡_, refl, sym, ap, _∙_}
-use lib.ListN.{length, take, drop, getD}
+use lib.ListN.{length, take, drop}
 use denote.Ref.{now}
 use borrow.Rule.Slice.PartMut.{putMid}
 use Prim.Native.Nat.{ℕ}
 use mathlib.Core.List.{List}
 use Rattle.sequences.specs.Tens.{tenBits}
-use Rattle.laws.proofs.Rest.{front-length}
 use Rattle.laws.specs.Front.{front}
 use Rattle.octets.specs.Lists.{untilCategory}
 use Rattle.octets.proofs.Lists.{group-end, group-on}
 use Rattle.sequences.specs.Line.{framedAll}
-use Rattle.sequences.proofs.Lines.{framed-one, done-length, out-length, rest-length, framed-more}
+use Rattle.sequences.proofs.Lines.{framed-one, out-length, rest-length, framed-more}
 use Rattle.sequences.proofs.write_group.Statement.{statement}
 use Rattle.sequences.proofs.write_group.Tie as tie
 

@@ -1,7 +1,6 @@
 use mathlib.Core.Path.{ap, _∙_}
 use Rattle.codes.specs.Hearing.{toldCode}
 use Rattle.codes.proofs.Codes.{read-answer}
-use Rattle.laws.specs.Choice.{choose}
 use borrow.Author.Needs.{needs}
 use Rattle.tailsprig.proofs.tailsprig_hear_many.Statement.{statement}
 use Rattle.tailsprig.proofs.tailsprig_hear_many.Tie as tie
