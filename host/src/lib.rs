@@ -1,6 +1,8 @@
 //! The proved library, called over its C ABI. `include/tailsprig.h` says what each call does; here a negative answer
 //! becomes an `Err`, and a slice becomes the pointer and the length that C passes.
 
+pub mod model;
+pub mod numbers;
 pub mod plain;
 pub mod steps;
 pub mod text;

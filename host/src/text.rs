@@ -61,6 +61,14 @@ fn modes(text: &str) -> Result<Modes, String> {
     Ok(Modes { available: number(available)?, pcm: number(pcm)?, items })
 }
 
+/// A record as it is read. Where one of the last four numbers is no digit, commas part them.
+pub fn show_record(record: &Record) -> String {
+    let functions = record.functions.map(|modes| format!("{}:{:04X}:{}", modes.available, modes.items, modes.pcm));
+    let flags = [record.lapm, record.access, record.cellular, record.digital];
+    let between = if flags.iter().all(|flag| *flag <= 9) { "" } else { "," };
+    format!("{} {} {}", functions.join(" "), record.home, flags.map(|flag| flag.to_string()).join(between))
+}
+
 /// Bits as characters; `-` where there are none.
 pub fn show_bits(bits: &[u8]) -> String {
     if bits.is_empty() {
@@ -85,6 +93,11 @@ pub fn show_refusal(refusal: Refusal) -> String {
 /// A line's bytes: `0` and `1` are bits, any other character is a byte that is no bit.
 pub fn line(text: &str) -> Vec<u8> {
     text.bytes().map(|character| character ^ b'0').collect()
+}
+
+/// A line's bytes as they are read, with `x` for each that is no bit.
+pub fn show_line(line: &[u8]) -> String {
+    line.iter().map(|byte| if *byte <= 1 { char::from(b'0' + byte) } else { 'x' }).collect()
 }
 
 /// What was reported on a line so far: `N:WHAT:OCTETS` each, with `:agreed` behind an agreed menu.

@@ -1,0 +1,95 @@
+//! Document 01 as a plain Rust program: what each call must answer, written for reading. It shares no code with the library, with
+//! the wrappers around it or with the Rust that the library is timed against. Where the page leaves room it follows
+//! `docs/DECISIONS.md`, as the library does: a comparison of the two tells whether both keep to the page as it is read there, and not
+//! whether that reading is right.
+//!
+//! The modules follow the sections of the page. What a comment has in double quotes is its text.
+
+mod bits;
+mod choice;
+mod listening;
+mod octets;
+mod records;
+mod steps;
+
+pub use bits::Kind;
+pub use choice::Choice;
+pub use listening::{Listener, Message, Place, Report};
+pub use octets::{Access, Menu, Pcm};
+pub use records::{Function, Record, Source};
+pub use steps::{Answer, End, Ended, Event, Session, State};
+
+/// "A refusal carries its number alone."
+#[derive(Clone, Copy, Debug, PartialEq, Eq)]
+pub struct Refusal(pub u8);
+
+/// The reading of document 01: the honest one, or one that makes a mistake.
+#[derive(Clone, Copy, Debug, Default)]
+pub struct Model {
+    mistake: Option<Mistake>,
+}
+
+impl Model {
+    /// A model that breaks one rule, to show that a comparison with it can fail.
+    pub fn broken(mistake: Mistake) -> Self {
+        Model { mistake: Some(mistake) }
+    }
+
+    /// Asked where a rule is that a mistake breaks; the honest model never makes one.
+    fn makes(&self, mistake: Mistake) -> bool {
+        self.mistake == Some(mistake)
+    }
+}
+
+/// A rule broken on purpose.
+#[derive(Clone, Copy, Debug, PartialEq, Eq)]
+pub enum Mistake {
+    /// Writing asks for the room of one copy only.
+    RoomForOne,
+    /// A 0 behind nine 1s starts a sync.
+    NineOnes,
+    /// An octet 55 is taken for the V.92 sync.
+    Octet55,
+    /// The 0 that cuts a sequence short never starts a sync.
+    CutStartsNoSync,
+    /// A CI between two equal menus is overlooked.
+    CiBetween,
+    /// The last group of a tag counts.
+    LastGroup,
+    /// A PCM group counts without an access group.
+    PcmWithoutAccess,
+    /// JM has the items of either end.
+    Union,
+    /// PCM options are joined like with like.
+    PcmLike,
+    /// JM's access options say our own cellular in b5.
+    AccessB5,
+    /// Item 0 is chosen as the best mode.
+    Item0,
+    /// The time 2^31 ms behind the entry is not refused.
+    HalfRange,
+    /// Elapsed means more than, not at least.
+    MoreThan,
+    /// The clock is tested before the event.
+    ClockFirst,
+}
+
+impl Mistake {
+    /// Every mistake with the name that it is asked for by.
+    pub const ALL: [(&str, Mistake); 14] = [
+        ("room-for-one", Mistake::RoomForOne),
+        ("nine-ones", Mistake::NineOnes),
+        ("octet-55", Mistake::Octet55),
+        ("cut-starts-no-sync", Mistake::CutStartsNoSync),
+        ("ci-between", Mistake::CiBetween),
+        ("last-group", Mistake::LastGroup),
+        ("pcm-without-access", Mistake::PcmWithoutAccess),
+        ("union", Mistake::Union),
+        ("pcm-like", Mistake::PcmLike),
+        ("access-b5", Mistake::AccessB5),
+        ("item-0", Mistake::Item0),
+        ("half-range", Mistake::HalfRange),
+        ("more-than", Mistake::MoreThan),
+        ("clock-first", Mistake::ClockFirst),
+    ];
+}
