@@ -1,0 +1,189 @@
+/*
+ * A line's loop: what a host does with bits, tones and time around the library. Two lines, a caller and an answerer, are joined here so
+ * that the example runs by itself: each bit that one sends the other hears. It prints what each end enters and exits with 0 where both go
+ * on with the same choice.
+ *
+ * The parts to take over are `line_step`, `line_hear` and `line_bit`; tones come from a line card, here from the other line's state.
+ */
+#include "tailsprig.h"
+
+#include <stdbool.h>
+#include <stdio.h>
+#include <string.h>
+
+/* What a host keeps for each line. */
+struct line {
+    const char *name;
+    struct tailsprig_record own;
+    struct tailsprig_session session;
+    struct tailsprig_listener heard;
+    uint8_t menu[TAILSPRIG_MENU_MOST]; /* the CM or JM of this end */
+    size_t menu_len;
+    uint8_t sending[TAILSPRIG_MOST_BITS]; /* one copy of what is sent, a byte for each bit */
+    size_t sending_len, sent;
+    bool again; /* a menu is sent until the state changes, CJ once */
+};
+
+static void show(const struct line *line, uint32_t now, const char *what)
+{
+    printf("%5u ms  %-8s  %s", (unsigned)now, line->name, what);
+}
+
+static void show_menu(const struct line *line)
+{
+    printf(", sends");
+    for (size_t i = 0; i < line->menu_len; i++)
+        printf(" %02X", line->menu[i]);
+}
+
+/* A menu that this end made, back to back until the state changes. A made menu is never refused by the writer. */
+static void send_menu(struct line *line)
+{
+    line->sending_len = (size_t)tailsprig_write(TAILSPRIG_MENU, line->menu, line->menu_len, 1, line->sending, sizeof line->sending);
+    line->sent = 0;
+    line->again = true;
+}
+
+static void send_cj(struct line *line)
+{
+    line->sending_len = (size_t)tailsprig_write_cj(line->sending, sizeof line->sending);
+    line->sent = 0;
+    line->again = false;
+}
+
+/* What each state asks of the line. */
+static void line_entered(struct line *line, int32_t state, uint32_t now)
+{
+    static const char *const names[] = {"", "still", "calling", "quiet", "menu", "closing", "pause", "still", "answering", "joint"};
+
+    show(line, now, names[state]);
+    line->sending_len = 0;
+    if (state == TAILSPRIG_STATE_MENU || state == TAILSPRIG_STATE_JOINT) {
+        show_menu(line);
+        send_menu(line);
+    } else if (state == TAILSPRIG_STATE_CLOSING) {
+        printf(", sends CJ");
+        send_cj(line);
+    }
+    printf("\n");
+}
+
+/* An event, with its time: the session that comes back is kept, refused or not. */
+static void line_step(struct line *line, uint8_t event, int32_t value, uint32_t now)
+{
+    struct tailsprig_step_taken taken = tailsprig_step(line->session, event, value, now);
+
+    line->session = taken.session;
+    if (taken.code < 0 || taken.code == 0)
+        return; /* a refusal, or nothing changed */
+    if (taken.code < TAILSPRIG_ENDED) {
+        line_entered(line, taken.code, now);
+        return;
+    }
+    line->sending_len = 0;
+    show(line, now, "over");
+    if (taken.code >= TAILSPRIG_GO_ON)
+        printf(", goes on with %d\n", (int)(taken.code - TAILSPRIG_GO_ON));
+    else
+        printf(", ended %d\n", (int)(taken.code - TAILSPRIG_ENDED));
+}
+
+/* A menu that was heard twice: the caller's answer to its CM, or a CM to answer. */
+static void line_agreed(struct line *line, uint32_t now)
+{
+    const uint8_t *menu = line->heard.msg.octets;
+    size_t len = line->heard.msg.len;
+
+    if (line->session.state == TAILSPRIG_STATE_MENU) {
+        line_step(line, TAILSPRIG_EVENT_AGREED_JM, tailsprig_choice(line->menu, line->menu_len, menu, len), now);
+    } else if (line->session.state == TAILSPRIG_STATE_ANSWERING) {
+        int32_t made = tailsprig_jm(line->own, menu, len, line->menu, sizeof line->menu);
+
+        if (made < 0)
+            return; /* our record is bad: an agreed menu can be read */
+        line->menu_len = (size_t)made;
+        line_step(line, TAILSPRIG_EVENT_AGREED_CM, tailsprig_choice(menu, len, line->menu, line->menu_len), now);
+    }
+}
+
+/* A bit from the line. */
+static void line_hear(struct line *line, uint8_t bit, uint32_t now)
+{
+    switch (tailsprig_hear(&line->heard, bit)) {
+    case TAILSPRIG_HEARD_AGREED:
+        line_agreed(line, now);
+        break;
+    case TAILSPRIG_HEARD_CJ:
+        if (line->session.end == TAILSPRIG_ANSWERER)
+            line_step(line, TAILSPRIG_EVENT_CJ, 0, now);
+        break;
+    default: /* nothing, a CI, a menu that is heard for the first time, or a refusal: noise on the line */
+        break;
+    }
+}
+
+/* The next bit to the line; 1s where nothing is sent. */
+static uint8_t line_bit(struct line *line, uint32_t now)
+{
+    if (line->sending_len == 0)
+        return 1;
+
+    uint8_t bit = line->sending[line->sent++];
+
+    if (line->sent == line->sending_len) {
+        line->sent = 0;
+        if (!line->again) {
+            line->sending_len = 0;
+            line_step(line, TAILSPRIG_EVENT_CJ_SENT, 0, now);
+        }
+    }
+    return bit;
+}
+
+/* A record with modes for data alone, function 6. */
+static struct tailsprig_record for_data(uint16_t items, uint8_t lapm)
+{
+    struct tailsprig_record own;
+
+    memset(&own, 0, sizeof own);
+    own.functions[5].available = 1;
+    own.functions[5].items = items;
+    own.home = 6;
+    own.lapm = lapm;
+    return own;
+}
+
+int main(void)
+{
+    struct line caller = {.name = "caller", .own = for_data(0x101A, 1)};     /* items 1, 3, 4, 12, LAPM */
+    struct line answerer = {.name = "answerer", .own = for_data(0x0118, 0)}; /* items 3, 4, 8 */
+    int32_t made = tailsprig_cm(caller.own, 6, caller.menu, sizeof caller.menu);
+
+    if (made < 0)
+        return 1;
+    caller.menu_len = (size_t)made;
+    caller.session = tailsprig_start_caller_default(0);
+    answerer.session = tailsprig_start_answerer(0);
+    caller.heard = tailsprig_fresh();
+    answerer.heard = tailsprig_fresh();
+
+    /* 300 bits a second, and a tick with each; the caller's line card hears ANSam while the answerer sends it. */
+    for (uint32_t n = 0; n < 30 * 300; n++) {
+        uint32_t now = n * 10 / 3;
+
+        line_step(&caller, TAILSPRIG_EVENT_TICK, 0, now);
+        line_step(&answerer, TAILSPRIG_EVENT_TICK, 0, now);
+        if (answerer.session.state == TAILSPRIG_STATE_ANSWERING && caller.session.state == TAILSPRIG_STATE_CALLING)
+            line_step(&caller, TAILSPRIG_EVENT_ANSAM, 0, now);
+
+        uint8_t from_caller = line_bit(&caller, now);
+        uint8_t from_answerer = line_bit(&answerer, now);
+
+        line_hear(&answerer, from_caller, now);
+        line_hear(&caller, from_answerer, now);
+    }
+
+    bool on = caller.session.ended == TAILSPRIG_ENDED_GO_ON && answerer.session.ended == TAILSPRIG_ENDED_GO_ON;
+
+    return on && caller.session.chosen == answerer.session.chosen ? 0 : 1;
+}
