@@ -41,9 +41,9 @@ reportLength (message kind octets) = length octets
 reportLength cj = 0
 reportLength (stretched.refusal n) = 0
 
-abbrev readable : Read → ℕ
-readable (offers o) = 1
-readable (menus.refusal n) = 0
+abbrev offered : Read → ℕ
+offered (offers o) = 1
+offered (menus.refusal n) = 0
 
 -- a CI and then a menu
 abbrev two : List ℕ
@@ -59,7 +59,7 @@ firm = record {
   reader = λ h. clash (sym (h fresh 1));
   writer = λ h. clash (sym (h Ci (0xC1 ∷ []) 1 (replicate 30 0)));
   message = λ told h. clash (ap refused (h fresh 2 ∙ sym (h fresh 1)));
-  offer = λ read h. let z : _≡_ {A = ℕ} 1 0 = ap readable (h (0xC1 ∷ []) ∙ sym (h [])) in absurd (let w : ⊥ = omega arith in w);
+  offer = λ read h. let z : _≡_ {A = ℕ} 1 0 = ap offered (h (0xC1 ∷ []) ∙ sym (h [])) in absurd (let w : ⊥ = omega arith in w);
   choice = λ chosen h. let z : _≡_ {A = ℕ} 1 0 = ap kindOf (h cmOfA (0xC1 ∷ 0x05 ∷ 0x13 ∷ 0x10 ∷ []) ∙ sym (h cmOfA (0xC1 ∷ []))) in absurd (let w : ⊥ = omega arith in w);
   changes = λ h. let z : _≡_ {A = ℕ} 1 0 = ap heardCount (h fresh 1) in absurd (let w : ⊥ = omega arith in w);
   later = λ h. let z : _≡_ {A = ℕ} 1 2 = ap reportLength (h two (message Ci (0xC1 ∷ [])) (message Menu (0xC1 ∷ 0x05 ∷ [])) [] both-reported) in absurd (let w : ⊥ = omega arith in w);

@@ -10,7 +10,7 @@ use lib.Dec.{eqb}
 use lib.ListN.{length, getD, List·getD-append}
 use Rattle.laws.specs.Choice.{choose, both}
 use Rattle.laws.specs.Tests.{every}
-use Rattle.laws.proofs.Chosen.{both-true}
+use Rattle.laws.proofs.Chosen.{both-true, both-neither}
 use Rattle.octets.specs.declared.Purpose.the-variants.{Reading}
 use Rattle.octets.specs.Octets.{category, tag, options, extension}
 use Rattle.octets.specs.Lists.{before, firstFault, listFault, groupEnds}
@@ -103,11 +103,6 @@ unfolding hasItem
 items-same octet e more h =
     set-same (hasItem (octet ∷ (e ++ more))) (hasItem (octet ∷ e)) 13
     (λ i l. ap (λ (n : ℕ). eqb (bitOf (placeOf i .bit .0) n) 1) (List·getD-append (octet ∷ e) more 0 (placeOf i .octet) (omega (arith, place-octet i l, h))))
-
-both-neither : (a : Bool) → both a false ≡ false
-unfolding both
-both-neither true = refl
-both-neither false = refl
 
 -- a group with a tag outside the table
 other-tag : (octet t : ℕ) → not (eqb (tag octet) t) ≡ true → opensGroup t octet ≡ false

@@ -11,6 +11,7 @@ use Rattle.menus.specs.declared.Offer.{Offer}
 use Rattle.items.specs.Items.{inSet}
 use Rattle.drafts.specs.Drafts.{analogue, digital, v91, paired}
 use Rattle.choices.specs.Choosing.{lowest, lowestFrom, pcmChoice, itemChoice, chosenFrom}
+use Rattle.offers.proofs.Making.{both-small}
 use Rattle.demands.specs.Shared.{Shared}
 
 -- the lowest item, where there is one, is in the set and below the end of what was looked at
@@ -23,11 +24,6 @@ lowest-in items i (suc n) =
     (λ t h. let rest = lowest-in items (i + 1) n h in (rest .0, omega (arith, rest .1)))
 
 -- three bits are found again in the number that they make
-both-small : (a b : ℕ) → a < 2 → b < 2 → a * b < 2
-both-small zero b h k = omega arith
-both-small (suc zero) b h k = omega (arith, k)
-both-small (suc (suc a)) b h k = absurd (omega (arith, h))
-
 parts : (x y z : ℕ) → x < 2 → y < 2 → z < 2 → (analogue (x + 2 * y + 4 * z) ≡ x) × (digital (x + 2 * y + 4 * z) ≡ y) × (v91 (x + 2 * y + 4 * z) ≡ z)
 parts x y z p q r = (omega (arith, p, q, r), omega (arith, p, q, r), omega (arith, p, q, r))
 

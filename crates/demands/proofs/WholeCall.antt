@@ -268,7 +268,7 @@ module _ (calls answers : Record) (function : ℕ) (call : Call calls answers fu
   pub whole-call : (callerStart te answererStart : ℕ) (callerEvents answererEvents : List Timed) → isTe te ≡ true
       → InOrder (callerFrom callerStart te) (callerOrder te (carried (callerNames calls function heardJm))) callerEvents
       → InOrder (answererFrom answererStart) (answererOrder (carried (answererNames answers heardCm))) answererEvents
-      → Ends calls answers function heardCm heardJm callerStart te answererStart callerEvents answererEvents
+      → Ends calls answers function callerStart te answererStart callerEvents answererEvents
   whole-call callerStart te answererStart callerEvents answererEvents given callerOrdered answererOrdered =
       let tests = both-true _ _ named-fits in
       let rest = both-true _ _ (tests .1) in

@@ -24,7 +24,7 @@ pub record Accepted (own : Record) : Type 0 where
   pub six : length (own .functions) ≡ 6
   pub good : badRecord own ≡ false
 
--- the CM that a record makes for a function, and the JM that it makes for what it heard
+-- the CM that a record makes for a function, and the JM that it makes for what it heard: what `madeCm` and `madeJm` write
 abbrev pub cmOf : Record → ℕ → List ℕ
 cmOf own function = menuOf (cmOffer own function)
 
@@ -59,7 +59,7 @@ pub record NothingShared (caller answerer : Record) (function : ℕ) : Type 0 wh
   pub items : (i : ℕ) → 0 < i → i < 13 → both (hasFor caller function i) (hasFor answerer function i) ≡ false
   pub pcm : paired (pcmFor caller function) (pcmFor answerer function) ≡ 0
 
--- a call between two records for a function that the caller has, over a line that delivers menus as sent
+-- a call between two records that are accepted, for a function that the caller has
 pub record Call (caller answerer : Record) (function : ℕ) : Type 0 where
   pub calling : Accepted caller
   pub answering : Accepted answerer
@@ -72,7 +72,7 @@ callerNames caller function heardJm = choiceOf (cmOf caller function) heardJm
 abbrev pub answererNames : Record → List ℕ → Chosen
 answererNames answerer heardCm = choiceOf heardCm (jmOf answerer heardCm)
 
--- "both ends name the same choice", it is no refusal, "and clear exactly when no mode and no PCM pairing is shared"
+-- for menus that were heard: "both ends name the same choice", it is no refusal, "and clear exactly when no mode and no PCM pairing is shared"
 pub record Settled (caller answerer : Record) (function : ℕ) (heardCm heardJm : List ℕ) : Type 0 where
   pub same : callerNames caller function heardJm ≡ answererNames answerer heardCm
   pub offered : (n : ℕ) → callerNames caller function heardJm ≡ refusal n → ⊥

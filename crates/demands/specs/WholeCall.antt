@@ -61,8 +61,8 @@ pub record EndsWith (choice : ℕ) (s : Session) : Type 0 where
   pub chosen : s .chosen ≡ choice
   pub ended : s .ended ≡ choose (eqb choice 0) cleared goesOn
 
--- both ends, each with its start, its events and the menu that it heard
-pub record Ends (caller answerer : Record) (function : ℕ) (heardCm heardJm : List ℕ) (callerStart te answererStart : ℕ) (callerEvents answererEvents : List Timed) : Type 0 where
+-- both ends, each with its start and its events
+pub record Ends (caller answerer : Record) (function callerStart te answererStart : ℕ) (callerEvents answererEvents : List Timed) : Type 0 where
   pub choice : ℕ
   pub calling : EndsWith choice (run (callerFrom callerStart te) callerEvents)
   pub answering : EndsWith choice (run (answererFrom answererStart) answererEvents)

@@ -38,6 +38,7 @@ cmOfferOf own function modes = record {
   «access_options» = accessOptions (cmAccess own (modes .pcm)) (bit (flag (own .cellular))) 0 (bit (flag (own .digital)));
 }
 
+-- for the modes that the function has in use
 abbrev pub cmOffer : Record → ℕ → Offer
 cmOffer own function = cmOfferOf own function (inUse own function)
 
@@ -64,6 +65,7 @@ withItem1 shared options = choose shared options (options / 4 * 4)
 abbrev pub sharedItems : Modes → Offer → ℕ
 sharedItems modes cm = bitAnd (modes .items) (cm .items)
 
+-- the PCM options of a JM
 abbrev pub jmPcm : Modes → Offer → ℕ
 jmPcm modes cm = withItem1 (inSet (sharedItems modes cm) 1) (paired (cm .pcm) (modes .pcm))
 

@@ -5,6 +5,7 @@ use lib.Dec.{leb}
 use Rattle.laws.specs.Choice.{both}
 use Rattle.framing.specs.declared.Ear.{Ear}
 
+-- the test
 abbrev pub earInRange : Ear → Bool
 earInRange ear = both (leb (ear .heard) 30) (leb (ear .place) 28)
 

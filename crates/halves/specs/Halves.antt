@@ -7,7 +7,7 @@ use Rattle.codes.specs.Hearing.{toldCode}
 use Rattle.halves.specs.declared.Light.{Light}
 use Rattle.halves.specs.declared.Heavy.{Heavy}
 
--- the two parts of a bit
+-- what the ear and four numbers of the record decide
 abbrev pub lightOf : Ear → ℕ → ℕ → ℕ → ℕ → ℕ → Light
 lightOf ear kind len lastKind lastLen bit = record {
   ear = glanced ear kind len lastKind lastLen bit .ear;
@@ -16,5 +16,6 @@ lightOf ear kind len lastKind lastLen bit = record {
   code = toldCode (lightlyTold (glanced ear kind len lastKind lastLen bit .act));
 }
 
+-- what is done with the messages
 abbrev pub heavyOf : Listener → ℕ → Heavy
 heavyOf rec act = record { rec = settled rec act .rec; code = toldCode (settled rec act .report) }

@@ -11,7 +11,7 @@ use lib.Dec.{ltb, ltb→lt, eqb, lit<}
 use lib.Pow.{pow-mono}
 use Rattle.laws.specs.Choice.{choose, both}
 use Rattle.laws.specs.Tests.{allBelow}
-use Rattle.laws.proofs.Chosen.{chosen}
+use Rattle.laws.proofs.Chosen.{chosen, bit-of-test}
 use Rattle.laws.proofs.Computed.{below}
 use Rattle.items.specs.Items.{setOf, bitOf, inSet}
 use Rattle.items.proofs.Bits.{bit-below, bit-at}
@@ -51,11 +51,6 @@ weight-of : (t : Bool) (w x : ℕ) → x + choose t w 0 ≡ choose t 1 0 * w + x
 unfolding choose
 weight-of true w x = omega arith
 weight-of false w x = omega arith
-
-bit-of-test : (t : Bool) → (choose t 1 0 < 2) × (eqb (choose t 1 0) 1 ≡ t)
-unfolding choose
-bit-of-test true = (lit< tt, refl)
-bit-of-test false = (lit< tt, refl)
 
 pub set-has : (f : ℕ → Bool) (n i : ℕ) → i < n → inSet (setOf f n) i ≡ f i
 unfolding inSet setOf

@@ -1,9 +1,10 @@
 -- What a test says of a choice, and of the two tests that it joins.
 -- Assumes nothing.
-use Prim.Native.Nat.{ℕ}
+use Prim.Native.Nat.{ℕ, _<_}
 use native.Mathlib.Omega.{arith}
-use mathlib.Core.Path.{_≡_, refl, ap}
+use mathlib.Core.Path.{_≡_, refl, sym, ap, ap₂, _∙_}
 use mathlib.Core.Bool.{Bool, true, false}
+use lib.Dec.{eqb, lit<}
 use Rattle.laws.specs.Choice.{choose, both, either}
 
 -- what holds of both sides of a choice holds of the choice, where each side may use its test
@@ -17,11 +18,10 @@ unfolding both
 both-true true b h = (refl, h)
 both-true false b h = let z : _≡_ {A = Bool} true false = cc in (cc, cc)
 
-pub both-false : (a b : Bool) → both a b ≡ false → a ≡ true → b ≡ true → ⊥
+pub both-neither : (a : Bool) → both a false ≡ false
 unfolding both
-both-false true true h x y = absurd (let z : _≡_ {A = ℕ} 0 1 = cc in let w : ⊥ = omega arith in w)
-both-false true false h x y = absurd (let z : _≡_ {A = ℕ} 0 1 = cc in let w : ⊥ = omega arith in w)
-both-false false b h x y = absurd (let z : _≡_ {A = ℕ} 0 1 = cc in let w : ⊥ = omega arith in w)
+both-neither true = refl
+both-neither false = refl
 
 pub either-false : (a b : Bool) → either a b ≡ false → (a ≡ false) × (b ≡ false)
 unfolding either
@@ -32,6 +32,16 @@ either-false false b h = (refl, h)
 pub clash : {A : Type 0} → _≡_ {A = Bool} true false → A
 unfolding choose
 clash e = absurd (let z : _≡_ {A = ℕ} 1 0 = ap (λ (b : Bool). choose b 1 0) e in let w : ⊥ = omega arith in w)
+
+pub both-false : (a b : Bool) → both a b ≡ false → a ≡ true → b ≡ true → ⊥
+unfolding both
+both-false a b h x y = clash (sym (ap₂ both x y) ∙ h)
+
+-- a test as a bit: it is one, and 1 where the test holds
+pub bit-of-test : (t : Bool) → (choose t 1 0 < 2) × (eqb (choose t 1 0) 1 ≡ t)
+unfolding choose
+bit-of-test true = (lit< tt, refl)
+bit-of-test false = (lit< tt, refl)
 
 -- choices by one test are the same where each side is, as far as it is chosen
 pub chosen-same : {A : Type 0} (t : Bool) (x x′ y y′ : A) → (t ≡ true → x ≡ x′) → (t ≡ false → y ≡ y′) → choose t x y ≡ choose t x′ y′

@@ -3,7 +3,7 @@
 use Prim.Native.Nat.{ℕ, suc, _<_, _≤_, _+_}
 use native.Mathlib.Numerals.{add-one}
 use mathlib.Core.Path.{_≡_, refl, ap}
-use mathlib.Core.Bool.{Bool, true, false}
+use mathlib.Core.Bool.{true, false}
 use mathlib.Core.List.{List, [], _∷_}
 use borrow.Author.Tests.{eq-eqb, ne-eqb}
 use lib.Dec.{eqb}
@@ -11,11 +11,7 @@ use lib.ListN.{length, drop, getD, drop-of-length-le}
 use lib.Seq.{drop-cons}
 use Rattle.laws.specs.Choice.{both}
 use Rattle.laws.specs.Tests.{sameList}
-
-both-false : (a : Bool) → both a false ≡ false
-unfolding both
-both-false true = refl
-both-false false = refl
+use Rattle.laws.proofs.Chosen.{both-neither}
 
 -- lists of different lengths are not the same
 pub same-lengths : (xs ys : List ℕ) → (length xs ≡ length ys → ⊥) → sameList xs ys ≡ false
@@ -23,7 +19,7 @@ unfolding sameList
 same-lengths [] [] h = absurd (h refl)
 same-lengths [] (y ∷ ys) h = refl
 same-lengths (x ∷ xs) [] h = refl
-same-lengths (x ∷ xs) (y ∷ ys) h = rw (same-lengths xs ys (λ e. h (ap suc e))) (both-false (eqb x y))
+same-lengths (x ∷ xs) (y ∷ ys) h = rw (same-lengths xs ys (λ e. h (ap suc e))) (both-neither (eqb x y))
 
 module _ (xs ys : List ℕ) (i : ℕ) where
   pub same-on : i < length xs → i < length ys → getD xs i 0 ≡ getD ys i 0 → sameList (drop i xs) (drop i ys) ≡ sameList (drop (i + 1) xs) (drop (i + 1) ys)

@@ -34,16 +34,16 @@ module _ (p : Purpose) where
   unfolding choose both
   category-fine b c = let none : b4 b ≡ 0 = eqb-true _ _ c in simp none
 
-  before-none : (f : ℕ) (t : Bool) → eqb f 0 ≡ t → choose t 0 f ≡ f
+  nothing-behind : (f : ℕ) (t : Bool) → eqb f 0 ≡ t → choose t 0 f ≡ f
   unfolding choose
-  before-none f true e = sym (eqb-true f 0 e)
-  before-none f false e = refl
+  nothing-behind f true e = sym (eqb-true f 0 e)
+  nothing-behind f false e = refl
 
   -- a group is at fault where its tag is
   pub group-fine : (b : ℕ) (e : List ℕ) → category b ≡ true → every extension e ≡ true → firstFault p (b ∷ e) ≡ categoryFault p (tag b)
   unfolding firstFault
   group-fine b e c h =
-      ap (λ (n : ℕ). before (octetFault p b) n) (extensions-fine e h) ∙ before-none (octetFault p b) (eqb (octetFault p b) 0) refl ∙ category-fine b c
+      ap (λ (n : ℕ). before (octetFault p b) n) (extensions-fine e h) ∙ nothing-behind (octetFault p b) (eqb (octetFault p b) 0) refl ∙ category-fine b c
 
   -- a list is accepted where it is short, opens with the call function, and nothing behind that is at fault
   pub accepted-by : (b : ℕ) (bs : List ℕ) → length (b ∷ bs) ≤ 64 → category b ≡ true → tag b ≡ 1 → firstFault p bs ≡ 0 → listFault p (b ∷ bs) ≡ 0

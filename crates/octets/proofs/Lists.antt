@@ -97,15 +97,17 @@ unfolding firstFault choose
 fault-append p [] b = refl
 fault-append p (x ∷ a) b = ap (λ (n : ℕ). before (octetFault p x) n) (fault-append p a b) ∙ before-by (octetFault p x) (firstFault p a) (firstFault p b) (eqb (octetFault p x) 0) refl
 
+-- nothing is refused where neither of two is
+pub before-none : (f g : ℕ) → before f g ≡ 0 → (f ≡ 0) × (g ≡ 0)
+before-none f g = chosen (λ (n : ℕ). n ≡ 0 → (f ≡ 0) × (g ≡ 0)) (eqb f 0) g f (λ t z. (eqb-true f 0 t, z)) (λ t z. absurd (eqb-false f 0 t z))
+
 -- no fault in both is none in either, and the other way round
 pub faultless : (p : Purpose) (a b : List ℕ) → firstFault p a ≡ 0 → firstFault p b ≡ 0 → firstFault p (a ++ b) ≡ 0
 unfolding choose
 faultless p a b h k = fault-append p a b ∙ simp (h, k)
 
 pub faultless-parts : (p : Purpose) (a b : List ℕ) → firstFault p (a ++ b) ≡ 0 → (firstFault p a ≡ 0) × (firstFault p b ≡ 0)
-faultless-parts p a b e =
-    chosen (λ (n : ℕ). n ≡ 0 → (firstFault p a ≡ 0) × (firstFault p b ≡ 0)) (eqb (firstFault p a) 0) (firstFault p b) (firstFault p a)
-    (λ t z. (eqb-true _ _ t, z)) (λ t z. absurd (eqb-false _ _ t z)) (sym (fault-append p a b) ∙ e)
+faultless-parts p a b e = before-none (firstFault p a) (firstFault p b) (sym (fault-append p a b) ∙ e)
 
 -- a category octet in front ends the group before it
 pub group-starts : (b : ℕ) (bs : List ℕ) → category b ≡ true → groupEnds (b ∷ bs) 0 ≡ true

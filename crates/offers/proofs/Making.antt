@@ -10,7 +10,7 @@ use borrow.Author.Tests.{ne-eqb}
 use lib.Dec.{ltb, lit<}
 use lib.Seq.{take-nil}
 use Rattle.laws.specs.Choice.{choose}
-use Rattle.laws.proofs.Chosen.{chosen, clash}
+use Rattle.laws.proofs.Chosen.{chosen, bit-of-test, clash}
 use Rattle.items.specs.Items.{inSet}
 use Rattle.records.specs.declared.Modes.{Modes}
 use Rattle.records.specs.declared.Record.{Record}
@@ -68,14 +68,14 @@ menu-length offer =
 
 -- options of an access group are options
 pub bit-small : (t : Bool) → bit t < 2
-bit-small t = chosen (λ (n : ℕ). n < 2) t 1 0 (λ _. lit< tt) (λ _. lit< tt)
+bit-small t = bit-of-test t .0
 
 access-small : (there : Bool) (caller answerer digital : ℕ) → caller < 2 → answerer < 2 → digital < 2 → accessOptions there caller answerer digital < 8
 access-small there caller answerer digital h k l =
     chosen (λ (n : ℕ). n < 8) there (caller + 2 * answerer + 4 * digital) 0 (λ _. omega (arith, h, k, l)) (λ _. lit< tt)
 
 -- and so are the PCM options of a JM
-both-small : (a b : ℕ) → a < 2 → b < 2 → a * b < 2
+pub both-small : (a b : ℕ) → a < 2 → b < 2 → a * b < 2
 both-small zero b h k = omega arith
 both-small (suc zero) b h k = omega (arith, k)
 both-small (suc (suc a)) b h k = absurd (omega (arith, h))

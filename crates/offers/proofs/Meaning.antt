@@ -9,6 +9,7 @@ use borrow.Author.Tests.{ltb-false, ne-eqb}
 use lib.Dec.{ltb, eqb, lit<}
 use Rattle.laws.specs.Choice.{choose}
 use Rattle.laws.specs.Tests.{every}
+use Rattle.laws.proofs.Chosen.{bit-of-test}
 use Rattle.octets.specs.declared.Kind.the-variants.{Menu}
 use Rattle.octets.specs.declared.Purpose.{Purpose}
 use Rattle.octets.specs.declared.Purpose.the-variants.{Reading, Writing}
@@ -131,11 +132,6 @@ unfolding choose
 chosen-alone true n h = refl
 chosen-alone false n h = sym (h refl)
 
-chosen-one : (t : Bool) → eqb (choose t 1 0) 1 ≡ t
-unfolding choose
-chosen-one true = refl
-chosen-one false = refl
-
 pub same-offer : (f g i j p q o r : ℕ) (l m a b : Bool) → f ≡ g → i ≡ j → p ≡ q → l ≡ m → a ≡ b → o ≡ r
     → _≡_ {A = Offer} (record { function = f; items = i; pcm = p; lapm = l; access = a; «access_options» = o }) (record { function = g; items = j; pcm = q; lapm = m; access = b; «access_options» = r })
 same-offer f g i j p q o r l m a b e1 e2 e3 e4 e5 e6 = cc
@@ -153,6 +149,6 @@ read-back offer says =
     (options-there 1 (offer .function) (lit< tt) (says .function))
     (ap itemsOf group-5 ∙ items-back (offer .items) (says .items))
     (ap (λ (b : Bool). choose b (optionsIn (groupOf (menuOf offer) pcmTag)) 0) standing ∙ ap (λ (n : ℕ). choose (offer .access) n 0) counted ∙ chosen-alone (offer .access) (offer .pcm) (says .pcm-alone))
-    (ap (λ (g : List ℕ). eqb (optionsIn g) 1) group-10 ∙ ap (λ (n : ℕ). eqb n 1) (options-of-one (offer .lapm) protocol 1 (lit< tt) (lit< tt)) ∙ chosen-one (offer .lapm))
+    (ap (λ (g : List ℕ). eqb (optionsIn g) 1) group-10 ∙ ap (λ (n : ℕ). eqb n 1) (options-of-one (offer .lapm) protocol 1 (lit< tt) (lit< tt)) ∙ bit-of-test (offer .lapm) .1)
     standing
     (ap optionsIn group-13 ∙ options-of-one (offer .access) access (offer .«access_options») (lit< tt) (says .options) ∙ chosen-alone (offer .access) (offer .«access_options») (says .options-alone))

@@ -62,6 +62,7 @@ sourceOf own heard ownCm =
     (choose (flag (inUse own (optionsIn heard) .available)) Heard Own)
     Neither)
 
+-- the first octet of that menu, or the empty part
 abbrev pub firstOctetOf : Source → List ℕ → List ℕ → List ℕ
 firstOctetOf Neither heard ownCm = []
 firstOctetOf Heard heard ownCm = take 1 heard

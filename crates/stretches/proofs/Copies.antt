@@ -25,7 +25,8 @@ use Rattle.stretches.specs.Hearing.{Report, message, reports}
 use Rattle.stretches.specs.Demand.{RoundTrip}
 use Rattle.stretches.proofs.Each.{Each, none, more, each-append, Bits}
 use Rattle.stretches.proofs.Standing.{nowhere-left}
-use Rattle.stretches.proofs.Sound.{Sound, before-none, accepted-sound, accepted-length}
+use Rattle.octets.proofs.Lists.{before-none}
+use Rattle.stretches.proofs.Sound.{Sound, accepted-sound, accepted-length}
 use Rattle.stretches.proofs.Words.{no-cj}
 use Rattle.stretches.proofs.Plain.{plain, after, fresh-plain}
 use Rattle.stretches.proofs.Sequences.{Goes, goes-on, here, Idle, Primed, Held, ones-bits, sync-bits, framed-bits, ones-idle, ones-held, idle-sequence, held-sequence}
@@ -102,7 +103,7 @@ buffered kind octets n out size small e =
     let line = copies n (sequence kind octets) in
     let f = before (listFault (Writing kind) octets) (roomFault line out) in
     let wrote = by-fault f line out size (eqb f 0) e in
-    let fine = before-none (listFault (Writing kind) octets) (roomFault line out) (eqb (listFault (Writing kind) octets) 0) refl (eqb-true f 0 (wrote .0)) in
+    let fine = before-none (listFault (Writing kind) octets) (roomFault line out) (eqb-true f 0 (wrote .0)) in
     ap (λ (l : List ℕ). reports fresh (l ++ tenOnes)) (wrote .1) ∙ copied kind octets (record { octet = small; taken = fine .0 }) n
 
 pub round-trip : RoundTrip

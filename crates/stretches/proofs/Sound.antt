@@ -5,7 +5,7 @@ use native.Mathlib.Omega.{arith}
 use mathlib.Core.Path.{_≡_, refl}
 use mathlib.Core.Bool.{Bool, true, false, not}
 use mathlib.Core.List.{List, [], _∷_}
-use borrow.Author.Tests.{ltb-true, eqb-true, not-true, eq-eqb}
+use borrow.Author.Tests.{ltb-true, not-true, eq-eqb}
 use lib.Dec.{T, eqb, ltb}
 use lib.ListN.{length, drop}
 use Rattle.laws.specs.Choice.{choose, both, either}
@@ -18,7 +18,7 @@ use Rattle.octets.specs.declared.Purpose.{Purpose}
 use Rattle.octets.specs.declared.Purpose.the-variants.{Writing}
 use Rattle.octets.specs.Octets.{bad}
 use Rattle.octets.specs.Lists.{octetFault, firstFault, opens}
-use Rattle.octets.proofs.Lists.{accepted-short}
+use Rattle.octets.proofs.Lists.{accepted-short, before-none}
 use Rattle.stretches.specs.Stretch.{octetsAll, Accepted}
 use Rattle.stretches.proofs.Each.{Each, none, more}
 
@@ -62,12 +62,6 @@ later-test Menu b h = below (laterSound Menu) 256 tt b h
 later-sound : (kind : Kind) (b : ℕ) → b < 256 → octetFault (Writing kind) b ≡ 0 → Sound b
 later-sound kind b h e = record { small = h; test = truly _ (implied _ _ (later-test kind b h) (eq-eqb _ _ e)) }
 
--- nothing is refused where neither of two is
-pub before-none : (f g : ℕ) (t : Bool) → eqb f 0 ≡ t → choose t g f ≡ 0 → (f ≡ 0) × (g ≡ 0)
-unfolding choose
-before-none f g true e z = (eqb-true f 0 e, z)
-before-none f g false e z = let w : _≡_ {A = Bool} true false = cc (eq-eqb f 0 z) in (z, cc)
-
 every-small : (b : ℕ) (bs : List ℕ) → octetsAll (b ∷ bs) ≡ true → (b < 256) × (octetsAll bs ≡ true)
 unfolding every
 every-small b bs e = let parts = both-true _ _ e in (ltb-true b 256 (parts .0), parts .1)
@@ -77,7 +71,7 @@ unfolding firstFault
 laters-sound kind [] small e = none
 laters-sound kind (b ∷ bs) small e =
     let parts = every-small b bs small in
-    let fine = before-none (octetFault (Writing kind) b) (firstFault (Writing kind) bs) (eqb (octetFault (Writing kind) b) 0) refl e in
+    let fine = before-none (octetFault (Writing kind) b) (firstFault (Writing kind) bs) e in
     more (later-sound kind b (parts .0) (fine .0)) (laters-sound kind bs (parts .1) (fine .1))
 
 by-tests : (p : Purpose) (bs : List ℕ) (long opened : Bool) → opens bs ≡ opened → choose long 4 (choose opened (firstFault p (drop 1 bs)) 5) ≡ 0 → (opens bs ≡ true) × (firstFault p (drop 1 bs) ≡ 0)

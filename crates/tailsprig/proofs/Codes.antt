@@ -15,7 +15,7 @@ use Rattle.laws.proofs.Chosen.{chosen}
 use Rattle.octets.specs.declared.Kind.{Kind}
 use Rattle.octets.specs.declared.Purpose.the-variants.{Writing}
 use Rattle.octets.specs.Lists.{before, listFault}
-use Rattle.octets.proofs.Lists.{accepted-short}
+use Rattle.octets.proofs.Lists.{accepted-short, before-none}
 use Rattle.octets.specs.declared.Wrote.{Wrote}
 use Rattle.sequences.specs.Line.{sequence, copies, cj}
 use Rattle.octets.specs.Lent.{says, Outcome, roomFault, put, Meets}
@@ -34,14 +34,11 @@ put-small : (f : ℕ) (line out : List ℕ) → (f ≡ 0 → length line < 2 ^ 3
 unfolding put
 put-small f line out h = chosen (λ (o : Outcome). Small (o .answer)) (eqb f 0) _ _ (λ e. h (eqb-true f 0 e)) (λ e. tt)
 
-first-none : (f g : ℕ) → before f g ≡ 0 → f ≡ 0
-first-none f g = chosen (λ (v : ℕ). v ≡ 0 → f ≡ 0) (eqb f 0) g f (λ e z. eqb-true f 0 e) (λ e z. z)
-
 pub written-small : (kind : Kind) (octets : List ℕ) (n : ℕ) (out : List ℕ) → n ≤ 65535 → Small (written kind octets n out .answer)
 written-small kind octets n out h =
     let line = copies n (sequence kind octets) in
     put-small (before (listFault (Writing kind) octets) (roomFault line out)) line out
-    (λ e. omega (arith, line-length kind octets n, line-small octets n (accepted-short (Writing kind) octets (first-none (listFault (Writing kind) octets) (roomFault line out) e)) h))
+    (λ e. omega (arith, line-length kind octets n, line-small octets n (accepted-short (Writing kind) octets (before-none (listFault (Writing kind) octets) (roomFault line out) e .0)) h))
 
 pub cj-small : (out : List ℕ) → Small (writtenCj out .answer)
 cj-small out = put-small (roomFault cj out) cj out (λ e. omega (arith, cj-length))
