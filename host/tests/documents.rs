@@ -76,6 +76,34 @@ fn public_functions(source: &str) -> BTreeMap<String, Function> {
     found
 }
 
+/// The wrong programs of a must-fail edit, each with the function or law that must be refused for it.
+fn wrong_programs(edit: &str) -> impl Iterator<Item = (String, String)> + '_ {
+    edit.lines().filter_map(|line| {
+        let (label, place) = line.strip_prefix("wrong: ")?.split_once(" in ")?;
+        Some((label.to_string(), place.to_string()))
+    })
+}
+
+/// The functions of a source, each with the functions of the same source that it calls.
+fn calls(source: &str) -> BTreeMap<String, BTreeSet<String>> {
+    let mut bodies: BTreeMap<String, String> = BTreeMap::new();
+    let mut name = String::new();
+    for line in source.lines() {
+        if let Some((_, rest)) = line.split_once("fn ").filter(|(before, _)| ["", "pub ", "pub extern \"C\" "].contains(before)) {
+            name = rest.chars().take_while(|c| c.is_alphanumeric() || *c == '_').collect();
+            bodies.insert(name.clone(), String::new());
+        } else if let Some(body) = bodies.get_mut(&name) {
+            body.push_str(line);
+            body.push('\n');
+        }
+    }
+    let named = |body: &String| {
+        let words = body.split(|c: char| !(c.is_alphanumeric() || c == '_')).map(str::to_string);
+        words.filter(|word| bodies.contains_key(word)).collect()
+    };
+    bodies.iter().map(|(name, body)| (name.clone(), named(body))).collect()
+}
+
 /// What definitions, laws, functions, types, constants and wrong programs are called in a crate.
 fn names_in(krate: &str) -> BTreeSet<String> {
     let mut names = BTreeSet::new();
@@ -97,6 +125,7 @@ fn names_in(krate: &str) -> BTreeSet<String> {
                 }
             }
             Some("rt") => names.extend(declared(&read(&path))),
+            Some("edit") => names.extend(wrong_programs(&read(&path)).map(|(label, _)| label)),
             _ => {
                 names.insert(stem);
             }
@@ -162,6 +191,35 @@ fn every_public_function_is_listed_with_its_promise() {
         assert!(!function.ensures.is_empty(), "{name} promises nothing");
         assert!(listed.contains(name), "{name} is not listed");
     }
+}
+
+/// A promise that nothing wrong was tried against may say too little. A wrong program counts for the public functions of its
+/// crate that lead to it; those that the host calls hand on to functions with wrong programs of their own, and have one at least.
+#[test]
+fn every_public_function_has_its_wrong_programs() {
+    let mut lacking = Vec::new();
+    for krate in crates().iter().filter(|krate| !PROGRAMS.contains(&krate.as_str())) {
+        let folder = root().join("crates").join(krate);
+        let source = read(&folder.join("src/lib.rt"));
+        let calls = calls(&source);
+        let wrong: Vec<String> = files(&folder.join("must-fail"))
+            .iter()
+            .flat_map(|path| wrong_programs(&read(path)).map(|(_, place)| place).collect::<Vec<_>>())
+            .collect();
+        for name in public_functions(&source).into_keys() {
+            let mut reached = BTreeSet::from([name.clone()]);
+            let mut open = vec![name.clone()];
+            while let Some(next) = open.pop() {
+                let called = calls[&next].iter().filter(|called| reached.insert((*called).clone())).cloned().collect::<Vec<_>>();
+                open.extend(called);
+            }
+            let tried = wrong.iter().filter(|place| reached.contains(*place)).count();
+            if tried < 2 {
+                lacking.push(format!("{krate}::{name}: {tried}"));
+            }
+        }
+    }
+    assert!(lacking.is_empty(), "fewer than two wrong programs: {lacking:#?}");
 }
 
 /// A name that is given in a table, in back quotes.

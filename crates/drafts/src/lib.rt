@@ -12,10 +12,7 @@ ghost use Rattle.drafts.specs.Drafts.{bit, withItem0, accessOptions, cmO
 pub fn both_of(a: bool, b: bool) -> bool
     ensures { λ r. ⌜ r ≡ both a b ⌝ }
 {
-    if a {
-        return b;
-    }
-    false
+    if a { b } else { false }
 }
 
 fn either_of(a: bool, b: bool) -> bool
