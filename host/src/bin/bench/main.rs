@@ -1,0 +1,295 @@
+//! `bench [LISTING [READER]]`: times the proved library beside plain Rust of the same rules, alternating in one run, and
+//! prints the nanoseconds a bit of each and how many times as long ours takes; with the path of the listing program, its
+//! megabytes a second too; with the shared object of `speed/spandsp_reader.c`, spandsp's reader of bits beside them. The best
+//! of many rounds counts, so that what else the machine does weighs little.
+mod spandsp;
+
+use spandsp::Spandsp;
+use std::hint::black_box;
+use std::path::Path;
+use std::process::{Command, Stdio};
+use std::time::Instant;
+use std::{env, fs, io, process};
+use tailsprig::{plain, text, Kind, Listener, Report};
+
+const ROUNDS: usize = 200;
+const MENU: [u8; 5] = [0xc1, 0x45, 0x13, 0x90, 0x2a];
+
+/// What ours is measured against: a column each.
+const RIVALS: [&str; 4] = ["Rust", "tuned", "spandsp", "re-armed"];
+
+type Work<'a> = &'a mut dyn FnMut();
+
+/// The nanoseconds that one call of `work` takes.
+fn time(work: Work) -> f64 {
+    let start = Instant::now();
+    work();
+    start.elapsed().as_nanos() as f64
+}
+
+/// The nanoseconds of the best round of ours and of each rival that is there, taken in turn.
+fn best(rounds: usize, ours: Work, mut rivals: [Option<Work>; RIVALS.len()]) -> (f64, [Option<f64>; RIVALS.len()]) {
+    let mut least = f64::MAX;
+    let mut others = rivals.each_ref().map(|rival| rival.as_ref().map(|_| f64::MAX));
+    for _ in 0..rounds {
+        least = least.min(time(ours));
+        for (other, rival) in others.iter_mut().zip(&mut rivals) {
+            if let (Some(other), Some(rival)) = (other, rival) {
+                *other = other.min(time(rival));
+            }
+        }
+    }
+    (least, others)
+}
+
+/// The names of the columns: what each takes, then ours divided by each rival.
+fn heading(unit: &str) {
+    print!("{unit:<34} {:>8}", "ours");
+    for name in RIVALS {
+        print!(" {name:>8}");
+    }
+    print!("  ours divided by:");
+    for name in RIVALS {
+        print!(" {name:>8}");
+    }
+    println!();
+}
+
+/// A row: the times in a unit that `show` gives, then the ratios of the times.
+fn row(name: &str, (ours, rivals): (f64, [Option<f64>; RIVALS.len()]), show: impl Fn(f64) -> String) {
+    let cell = |text: Option<String>| format!("{:>8}", text.unwrap_or_else(|| "-".to_string()));
+    let times: Vec<String> = rivals.iter().map(|time| cell(time.map(&show))).collect();
+    let ratios: Vec<String> = rivals.iter().map(|time| cell(time.map(|time| format!("{:.2}", ours / time)))).collect();
+    println!("{name:<34} {} {} {:>17} {}", cell(Some(show(ours))), times.join(" "), "", ratios.join(" "));
+}
+
+fn compare(name: &str, bits: usize, ours: Work, rivals: [Option<Work>; RIVALS.len()]) {
+    row(name, best(ROUNDS, ours, rivals), |nanoseconds| format!("{:.3}", nanoseconds / bits as f64));
+}
+
+/// Calls of a writer on one message, as many as write about a million bits.
+fn writing(name: &str, kind: Kind, octets: &[u8], copies: u16) {
+    let size = (20 + 10 * octets.len()) * copies as usize;
+    let calls = 1_000_000 / size + 1;
+    let mut ours = vec![0; size];
+    let mut rust = vec![0; size];
+    compare(
+        name,
+        calls * size,
+        &mut || {
+            for _ in 0..calls {
+                let _ = black_box(tailsprig::write(kind, black_box(octets), copies, black_box(&mut ours)));
+            }
+        },
+        [
+            Some(&mut || {
+                for _ in 0..calls {
+                    let _ = black_box(plain::write(kind, black_box(octets), copies, black_box(&mut rust)));
+                }
+            }),
+            None,
+            None,
+            None,
+        ],
+    );
+    assert_eq!(ours, rust, "{name}: the two wrote different bits");
+}
+
+/// How many reports there are, one bit a call.
+fn one_a_call(bits: &[u8], mut hear: impl FnMut(u8) -> Report) -> usize {
+    bits.iter().filter(|&&bit| hear(bit) != Report::Nothing).count()
+}
+
+/// The same, many bits at once.
+fn many_at_once(mut bits: &[u8], mut hear_many: impl FnMut(&[u8]) -> (usize, Report)) -> usize {
+    let mut reports = 0;
+    while !bits.is_empty() {
+        let (taken, report) = hear_many(bits);
+        assert!(taken > 0, "{report:?} and nothing taken");
+        bits = &bits[taken..];
+        reports += usize::from(report != Report::Nothing);
+    }
+    reports
+}
+
+/// How many agreed menus ours reports. All ways to hear, ours and those of plain Rust, have to report the same.
+fn agreed_menus(name: &str, bits: &[u8]) -> usize {
+    let (mut ours, mut rust) = (Listener::fresh(), plain::Listener::fresh());
+    let mut reports = [(); 5].map(|()| text::Reports::default());
+    let mut agreed = 0;
+    one_a_call(bits, |bit| {
+        let report = ours.hear(bit);
+        reports[0].add(1, report, ours.octets());
+        agreed += usize::from(report == Report::Menu { agreed: true });
+        let report = rust.hear(bit);
+        reports[1].add(1, report, rust.octets());
+        report
+    });
+    let (mut ours, mut rust) = (Listener::fresh(), plain::Listener::fresh());
+    many_at_once(bits, |rest| {
+        let (taken, report) = ours.hear_many(rest);
+        reports[2].add(taken, report, ours.octets());
+        (taken, report)
+    });
+    many_at_once(bits, |rest| {
+        let (taken, report) = rust.hear_many(rest);
+        reports[3].add(taken, report, rust.octets());
+        (taken, report)
+    });
+    let mut tuned = plain::Listener::fresh();
+    many_at_once(bits, |rest| {
+        let (taken, report) = tuned.hear_many_tuned(rest);
+        reports[4].add(taken, report, tuned.octets());
+        (taken, report)
+    });
+    let [first, others @ ..] = reports.map(|reports| reports.show());
+    assert!(others.iter().all(|other| *other == first), "{name}: not the same was heard");
+    agreed
+}
+
+/// A fresh listener of each hears the bits.
+fn hearing(name: &str, bits: &[u8], spandsp: Option<&Spandsp>) {
+    let agreed = agreed_menus(name, bits);
+    let mut as_it_stands = spandsp.map(|spandsp| || spandsp.one_a_call(black_box(bits)));
+    let mut rearmed = spandsp.map(|spandsp| {
+        || {
+            black_box(spandsp.one_a_call_rearmed(black_box(bits)));
+        }
+    });
+    compare(
+        &format!("hear {name}, one a call"),
+        bits.len(),
+        &mut || {
+            let mut listener = Listener::fresh();
+            black_box(one_a_call(black_box(bits), |bit| listener.hear(bit)));
+        },
+        [
+            Some(&mut || {
+                let mut listener = plain::Listener::fresh();
+                black_box(one_a_call(black_box(bits), |bit| listener.hear(bit)));
+            }),
+            None,
+            as_it_stands.as_mut().map(|work| work as Work),
+            rearmed.as_mut().map(|work| work as Work),
+        ],
+    );
+    let mut as_it_stands = spandsp.map(|spandsp| || spandsp.many_at_once(black_box(bits)));
+    let mut rearmed = spandsp.map(|spandsp| {
+        || {
+            black_box(spandsp.many_at_once_rearmed(black_box(bits)));
+        }
+    });
+    compare(
+        &format!("hear {name}, many at once"),
+        bits.len(),
+        &mut || {
+            let mut listener = Listener::fresh();
+            black_box(many_at_once(black_box(bits), |rest| listener.hear_many(rest)));
+        },
+        [
+            Some(&mut || {
+                let mut listener = plain::Listener::fresh();
+                black_box(many_at_once(black_box(bits), |rest| listener.hear_many(rest)));
+            }),
+            Some(&mut || {
+                let mut listener = plain::Listener::fresh();
+                black_box(many_at_once(black_box(bits), |rest| listener.hear_many_tuned(rest)));
+            }),
+            as_it_stands.as_mut().map(|work| work as Work),
+            rearmed.as_mut().map(|work| work as Work),
+        ],
+    );
+    if let Some(spandsp) = spandsp {
+        let accepted = spandsp.many_at_once_rearmed(bits);
+        assert_eq!(accepted, spandsp.one_a_call_rearmed(bits), "{name}: spandsp did not accept the same");
+        println!("  {name}: {agreed} agreed menus were heard by ours, {accepted} by spandsp");
+    }
+}
+
+/// Copies of the menu, at least so many bits.
+fn menus(bits: usize) -> Vec<u8> {
+    let mut copy = [0; 70];
+    plain::write(Kind::Menu, &MENU, 1, &mut copy).expect("a menu and its room");
+    copy.repeat(bits / copy.len() + 1)
+}
+
+/// Marsaglia's xorshift, from a fixed seed: the same bits in every run.
+fn random(bits: usize) -> Vec<u8> {
+    let mut state: u64 = 0x9e37_79b9_7f4a_7c15;
+    let mut next = || {
+        state ^= state << 13;
+        state ^= state >> 7;
+        state ^= state << 17;
+        (state >> 63) as u8
+    };
+    (0..bits).map(|_| next()).collect()
+}
+
+/// The recordings that the tests list, one behind the other and again until there are so many bits.
+fn recordings(bits: usize) -> io::Result<Vec<u8>> {
+    let folder = Path::new(env!("CARGO_MANIFEST_DIR")).join("../tests/recordings");
+    let mut paths: Vec<_> = fs::read_dir(folder)?.map(|entry| Ok(entry?.path())).collect::<io::Result<_>>()?;
+    paths.retain(|path| path.extension().is_some_and(|extension| extension == "bits"));
+    paths.sort();
+    let mut all = Vec::new();
+    for path in paths {
+        all.extend(fs::read(path)?.iter().filter(|byte| **byte != b'\n').map(|byte| byte - b'0'));
+    }
+    Ok(all.repeat(bits / all.len() + 1))
+}
+
+/// The listing program on 50 MB of menus, from a file and into nothing, beside plain Rust that does the same.
+fn listing(program: &str) -> io::Result<()> {
+    let input: Vec<u8> = menus(50_000_000).iter().map(|bit| b'0' + bit).collect();
+    let path = env::temp_dir().join(format!("tailsprig-bench-{}.bits", process::id()));
+    fs::write(&path, &input)?;
+    let timed = listed(program, &path);
+    fs::remove_file(&path)?;
+    println!();
+    heading("megabytes a second");
+    row("list menus", timed?, |nanoseconds| format!("{:.0}", input.len() as f64 * 1000.0 / nanoseconds));
+    Ok(())
+}
+
+fn listed(program: &str, path: &Path) -> io::Result<(f64, [Option<f64>; RIVALS.len()])> {
+    let run = |output: Stdio| {
+        let child = Command::new(program).stdin(fs::File::open(path)?).stdout(output).spawn()?;
+        let done = child.wait_with_output()?;
+        if done.status.success() {
+            Ok(done.stdout)
+        } else {
+            Err(io::Error::other(format!("{program}: {}", done.status)))
+        }
+    };
+    let rust = |output: &mut dyn io::Write| plain::listing(fs::File::open(path)?, output);
+    let mut expected = Vec::new();
+    rust(&mut expected)?;
+    if run(Stdio::piped())? != expected {
+        return Err(io::Error::other(format!("{program} and plain Rust list differently")));
+    }
+    let mut null = fs::File::create("/dev/null")?;
+    Ok(best(
+        10,
+        &mut || drop(black_box(run(Stdio::null()))),
+        [Some(&mut || drop(black_box(rust(&mut null)))), None, None, None],
+    ))
+}
+
+fn main() -> io::Result<()> {
+    let spandsp = env::args().nth(2).map(|reader| Spandsp::load(&reader)).transpose()?;
+    let spandsp = spandsp.as_ref();
+    let long: Vec<u8> = (0..64).map(|at| if at == 0 { 0xc1 } else { MENU[1 + at % 4] }).collect();
+    heading("nanoseconds a bit");
+    writing("write a CI, 1 copy", Kind::Ci, &[0xc1], 1);
+    writing("write a menu of 5 octets, 1 copy", Kind::Menu, &MENU, 1);
+    writing("write a menu of 5 octets, 100", Kind::Menu, &MENU, 100);
+    writing("write a menu of 64 octets, 100", Kind::Menu, &long, 100);
+    hearing("menus", &menus(200_000), spandsp);
+    hearing("recordings", &recordings(200_000)?, spandsp);
+    hearing("random bits", &random(200_000), spandsp);
+    hearing("all 1s", &[1; 200_000], spandsp);
+    match env::args().nth(1) {
+        Some(program) => listing(&program),
+        None => Ok(()),
+    }
+}
