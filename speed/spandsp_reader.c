@@ -10,10 +10,7 @@
 /* It stands in for mathematics that an old C library lacks. */
 #define _FLOATING_FUDGE_H_
 
-#pragma GCC diagnostic push
-#pragma GCC diagnostic ignored "-Wunused-parameter"
 #include "v8.c"
-#pragma GCC diagnostic pop
 
 #include <stdbool.h>
 

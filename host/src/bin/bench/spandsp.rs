@@ -1,6 +1,7 @@
 //! spandsp's reader of bits, from the shared object that `speed/run` makes of `speed/spandsp_reader.c`.
 use std::ffi::{c_char, c_int, c_void, CStr, CString};
 use std::io;
+use std::mem::transmute;
 
 extern "C" {
     fn dlopen(path: *const c_char, flags: c_int) -> *mut c_void;
@@ -11,15 +12,21 @@ extern "C" {
 const RTLD_NOW: c_int = 2;
 
 type End = *mut c_void;
+type Answerer = unsafe extern "C" fn() -> End;
+type Begin = unsafe extern "C" fn(End);
+type Hear = unsafe extern "C" fn(End, u8);
+type HearMany = unsafe extern "C" fn(End, *const u8, usize);
+type HearRearmed = unsafe extern "C" fn(End, u8) -> bool;
+type HearManyRearmed = unsafe extern "C" fn(End, *const u8, usize) -> usize;
 
 /// An answering end and what it is called with. It is kept to the end of the program, as the shared object is.
 pub struct Spandsp {
     end: End,
-    begin: unsafe extern "C" fn(End),
-    hear: unsafe extern "C" fn(End, u8),
-    hear_many: unsafe extern "C" fn(End, *const u8, usize),
-    hear_rearmed: unsafe extern "C" fn(End, u8) -> bool,
-    hear_many_rearmed: unsafe extern "C" fn(End, *const u8, usize) -> usize,
+    begin: Begin,
+    hear: Hear,
+    hear_many: HearMany,
+    hear_rearmed: HearRearmed,
+    hear_many_rearmed: HearManyRearmed,
 }
 
 impl Spandsp {
@@ -39,18 +46,17 @@ impl Spandsp {
                 }
                 Ok(function)
             };
-            let answerer: unsafe extern "C" fn() -> End = std::mem::transmute(function(c"spandsp_answerer")?);
-            let end = answerer();
+            let end = transmute::<*mut c_void, Answerer>(function(c"spandsp_answerer")?)();
             if end.is_null() {
                 return Err(io::Error::other(format!("{path} gives no answering end")));
             }
             Ok(Spandsp {
                 end,
-                begin: std::mem::transmute(function(c"spandsp_begin")?),
-                hear: std::mem::transmute(function(c"spandsp_hear")?),
-                hear_many: std::mem::transmute(function(c"spandsp_hear_many")?),
-                hear_rearmed: std::mem::transmute(function(c"spandsp_hear_rearmed")?),
-                hear_many_rearmed: std::mem::transmute(function(c"spandsp_hear_many_rearmed")?),
+                begin: transmute::<*mut c_void, Begin>(function(c"spandsp_begin")?),
+                hear: transmute::<*mut c_void, Hear>(function(c"spandsp_hear")?),
+                hear_many: transmute::<*mut c_void, HearMany>(function(c"spandsp_hear_many")?),
+                hear_rearmed: transmute::<*mut c_void, HearRearmed>(function(c"spandsp_hear_rearmed")?),
+                hear_many_rearmed: transmute::<*mut c_void, HearManyRearmed>(function(c"spandsp_hear_many_rearmed")?),
             })
         }
     }
