@@ -24,7 +24,7 @@ done | awk -F '\t' '
         delete own
         while ((getline line < log_file) > 0) {
             lines++
-            if (line ~ /: error: .*(is not in scope|cannot be named|has no `)/) complaint = line
+            if (line ~ /(is not in scope|cannot be named|has no (field )?`)/) complaint = line
             if (match(line, /^fn [a-z_]+::[a-z0-9_]+: no proof: .* does not close/)) {
                 place = line
                 sub(/^fn [a-z_]+::/, "", place)
