@@ -5,7 +5,7 @@ use std::fs;
 use std::path::{Path, PathBuf};
 
 /// Programs, which no other code calls: their functions promise nothing to a host.
-const PROGRAMS: [&str; 1] = ["listing"];
+const PROGRAMS: [&str; 2] = ["listing", "rehearse"];
 
 fn root() -> PathBuf {
     Path::new(env!("CARGO_MANIFEST_DIR")).join("..")
