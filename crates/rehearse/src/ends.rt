@@ -1,14 +1,13 @@
-// An end of the call: what a host keeps for each line, and what it does with a tick, a tone, a bit from the line and the next bit to it.
-// It is the loop of examples/line.c.
+// An end of the call: what a host keeps for each line besides its listening record, and what it does with a tick, a tone, a report of
+// the listener and the bits that it sends. It is the loop of examples/line.c.
 use super::telling;
 use super::words::part;
+use listening::Answer;
 use listening::Heard;
-use listening::Listener;
 use listening::Message;
 use octets::Kind;
 use octets::Wrote;
 use records::Record;
-use steps::Answer;
 use steps::Session;
 
 // A menu that we made: at most seven octets.
@@ -17,22 +16,13 @@ pub struct Menu {
     pub len: usize,
 }
 
-// One copy of what is sent, a byte for each bit, and how far it is sent. A menu is sent until the state changes, CJ once.
-pub struct Sending {
-    pub bits: [u8; 90],
-    pub len: usize,
-    pub sent: usize,
-    pub again: bool,
-}
-
-// `told` is the last report of the listener: the number of a refusal, or one of those below.
+// The session, the CM or JM of this end, how many bits are sent of a copy of what its state sends, and the last report of the listener:
+// the number of a refusal, or one of those below.
 pub struct End {
-    pub own: Record,
-    pub menu: Menu,
     pub session: Session,
-    pub heard: Listener,
+    pub menu: Menu,
+    pub sent: usize,
     pub told: u8,
-    pub sending: Sending,
 }
 
 const TOLD_NOTHING: u8 = 0;
@@ -45,15 +35,6 @@ const TOLD_AGREED: u8 = 22;
 
 const TOLD_CJ: u8 = 23;
 
-fn silence() -> Sending {
-    Sending {
-        bits: [0u8; 90],
-        len: 0,
-        sent: 0,
-        again: false,
-    }
-}
-
 fn count_of(wrote: Wrote) -> usize {
     match wrote {
         Wrote::Count(n) => n,
@@ -61,82 +42,84 @@ fn count_of(wrote: Wrote) -> usize {
     }
 }
 
-fn menu_bits(menu: Menu) -> Sending {
+// Writes one copy of what is sent in a state, a byte for each bit, and answers how many bits it has; 0 where nothing is sent.
+fn write_copy(state: u8, menu: Menu, bits: &mut [u8]) -> usize {
     let octets = menu.octets;
-    let mut bits = [0u8; 90];
-    let wrote = sequences::write(Kind::Menu, part(&octets, 0, menu.len), 1, &mut bits);
-    Sending {
-        bits: bits,
-        len: count_of(wrote),
-        sent: 0,
-        again: true,
-    }
-}
-
-fn cj_bits() -> Sending {
-    let mut bits = [0u8; 90];
-    let wrote = sequences::write_cj(&mut bits);
-    Sending {
-        bits: bits,
-        len: count_of(wrote),
-        sent: 0,
-        again: false,
-    }
-}
-
-// What is sent in a state.
-fn sending_in(state: u8, menu: Menu) -> Sending {
     if state == steps::MENU {
-        return menu_bits(menu);
+        return count_of(sequences::write(Kind::Menu, part(&octets, 0, menu.len), 1, bits));
     }
     if state == steps::JOINT {
-        return menu_bits(menu);
+        return count_of(sequences::write(Kind::Menu, part(&octets, 0, menu.len), 1, bits));
     }
     if state == steps::CLOSING {
-        return cj_bits();
+        return count_of(sequences::write_cj(bits));
     }
-    silence()
+    0
+}
+
+// The next bit to the line, how many bits of the copy are sent with it, and whether that is the whole copy.
+pub struct Sending {
+    pub bit: u8,
+    pub sent: usize,
+    pub whole: bool,
+}
+
+// A bit of a copy that has so many bits; 1 where nothing is sent.
+fn bit_of(bits: &[u8; 90], len: usize, sent: usize) -> Sending {
+    if sent < 90 {
+        if sent < len {
+            return Sending {
+                bit: bits[sent],
+                sent: sent + 1,
+                whole: sent + 1 == len,
+            };
+        }
+    }
+    Sending {
+        bit: 1,
+        sent: 0,
+        whole: false,
+    }
+}
+
+pub fn next_bit(end: End) -> Sending {
+    let session = end.session;
+    let menu = end.menu;
+    let mut bits = [0u8; 90];
+    let len = write_copy(session.state, menu, &mut bits);
+    bit_of(&bits, len, end.sent)
 }
 
 // An end at the beginning of the call.
-pub fn begin(own: Record, menu: Menu, session: Session) -> End {
-    let end = End {
-        own: own,
-        menu: menu,
+pub fn begin(session: Session, menu: Menu) -> End {
+    telling::tell_state(0, session, b"");
+    End {
         session: session,
-        heard: listening::fresh_line(),
+        menu: menu,
+        sent: 0,
         told: TOLD_NOTHING,
-        sending: silence(),
-    };
-    let octets = menu.octets;
-    telling::tell_state(0, session, part(&octets, 0, menu.len));
-    end
+    }
 }
 
-fn enter(end: End, session: Session, now: u32) -> End {
-    let menu = end.menu;
+fn tell_state(now: u32, session: Session, menu: Menu) {
     let octets = menu.octets;
     telling::tell_state(now, session, part(&octets, 0, menu.len));
-    let sending = sending_in(session.state, menu);
-    let mut next = end;
-    next.session = session;
-    next.sending = sending;
-    next
 }
 
-// An event with its time: a change of state is told.
+// An event with its time: a state that is entered is told, and what it sends starts anew.
 pub fn step(end: End, event: u8, value: u8, now: u32) -> End {
     let session = end.session;
     let stepped = steps::step(session, event, value, now);
-    let next = stepped.session;
-    let answer = stepped.answer;
-    match answer {
-        Answer::Same => end,
-        Answer::Refused(_) => end,
-        Answer::Entered(_) => enter(end, next, now),
-        Answer::Ended(_) => enter(end, next, now),
-        Answer::GoOn(_) => enter(end, next, now),
+    let after = stepped.session;
+    if after.state == session.state {
+        return end;
     }
+    let menu = end.menu;
+    tell_state(now, after, menu);
+    let mut next = end;
+    next.session = after;
+    next.sent = 0;
+    next
 }
 
 pub fn state_of(end: End) -> u8 {
@@ -147,60 +130,23 @@ pub fn state_of(end: End) -> u8 {
 // The caller's line card hears ANSam while the answerer sends it.
 pub fn hear_tone(caller: End, answerer_state: u8, now: u32) -> End {
     if answerer_state == steps::ANSWERING {
-        if state_of(caller) == steps::CALLING {
-            return step(caller, steps::ANSAM, 0, now);
-        }
-        return caller;
+        return step(caller, steps::ANSAM, 0, now);
     }
     caller
 }
 
-fn bit_at(bits: &[u8; 90], at: usize) -> u8 {
-    if at < 90 {
-        return bits[at];
-    }
-    1
-}
-
-// The next bit to the line; 1 where nothing is sent.
-pub fn next_bit(end: End) -> u8 {
-    let sending = end.sending;
-    let bits = sending.bits;
-    if sending.sent < sending.len {
-        return bit_at(&bits, sending.sent);
-    }
-    1
-}
-
-fn with_sending(end: End, sending: Sending) -> End {
+// A bit was sent. A menu is sent until the state changes, CJ once.
+pub fn after_bit(end: End, sending: Sending, now: u32) -> End {
     let mut next = end;
-    next.sending = sending;
-    next
-}
-
-// What follows the last bit of a copy: the copy again, or the event that CJ is sent.
-fn end_copy(end: End, now: u32) -> End {
-    let mut sending = end.sending;
-    if sending.again {
-        sending.sent = 0;
-        return with_sending(end, sending);
-    }
-    step(with_sending(end, silence()), steps::CJ_SENT, 0, now)
-}
-
-// A bit was sent.
-pub fn after_bit(end: End, now: u32) -> End {
-    let mut sending = end.sending;
-    let sent = sending.sent;
-    let len = sending.len;
-    if sent < len {
-        if sent + 1 < len {
-            sending.sent = sent + 1;
-            return with_sending(end, sending);
+    if sending.whole {
+        next.sent = 0;
+        if state_of(end) == steps::CLOSING {
+            return step(next, steps::CJ_SENT, 0, now);
         }
-        return end_copy(end, now);
+        return next;
     }
-    end
+    next.sent = sending.sent;
+    next
 }
 
 fn end_of(end: End) -> u8 {
@@ -208,9 +154,10 @@ fn end_of(end: End) -> u8 {
     session.end
 }
 
-fn message_of(end: End) -> Message {
-    let rec = end.heard;
-    rec.msg
+fn with_told(end: End, told: u8) -> End {
+    let mut next = end;
+    next.told = told;
+    next
 }
 
 fn same_message(a: Message, b: Message) -> bool {
@@ -227,40 +174,20 @@ fn same_message(a: Message, b: Message) -> bool {
     false
 }
 
-// Whether a message is told that is reported as `told`, where `before` was reported before it: not where both are the same.
-fn is_news(end: End, told: u8, before: Message) -> bool {
-    if end.told == told {
-        if same_message(message_of(end), before) {
-            return false;
-        }
-        return true;
-    }
-    true
-}
-
 fn tell_message(now: u32, end: u8, what: &[u8], m: Message) {
     let octets = m.octets;
     telling::tell_message(now, end, what, part(&octets, 0, m.len as usize));
 }
 
-fn with_told(end: End, told: u8) -> End {
-    let mut next = end;
-    next.told = told;
-    next
-}
-
-fn hear_ci(end: End, before: Message, now: u32) -> End {
-    if is_news(end, TOLD_CI, before) {
-        tell_message(now, end_of(end), b"hears CI", message_of(end));
+// A message that is not agreed, where `before` is the message reported before it: the same report again is not told.
+fn hear_message(end: End, told: u8, what: &[u8], before: Message, m: Message, now: u32) -> End {
+    if end.told == told {
+        if same_message(before, m) {
+            return end;
+        }
     }
-    with_told(end, TOLD_CI)
-}
-
-fn hear_menu(end: End, before: Message, now: u32) -> End {
-    if is_news(end, TOLD_MENU, before) {
-        tell_message(now, end_of(end), b"hears the menu", message_of(end));
-    }
-    with_told(end, TOLD_MENU)
+    tell_message(now, end_of(end), what, m);
+    with_told(end, told)
 }
 
 // The choice, as an event carries it, from the menu of this end and the menu that it heard.
@@ -295,8 +222,7 @@ fn hear_jm(end: End, m: Message, now: u32) -> End {
 }
 
 // A CM is answered with the JM for it.
-fn hear_cm(end: End, m: Message, now: u32) -> End {
-    let own = end.own;
+fn hear_cm(end: End, own: Record, m: Message, now: u32) -> End {
     let menu = jm_for(own, m);
     let value = choose(steps::ANSWERER, menu, m);
     telling::tell_agreed(now, steps::ANSWERER, value);
@@ -306,30 +232,22 @@ fn hear_cm(end: End, m: Message, now: u32) -> End {
 }
 
 // A menu is agreed. Where nothing waits for it, it is told once and changes nothing.
-fn hear_agreed(end: End, now: u32) -> End {
+fn hear_agreed(end: End, own: Record, m: Message, now: u32) -> End {
     let state = state_of(end);
-    let next = with_told(end, TOLD_AGREED);
     if state == steps::MENU {
-        return hear_jm(next, message_of(end), now);
+        return hear_jm(with_told(end, TOLD_AGREED), m, now);
     }
     if state == steps::ANSWERING {
-        return hear_cm(next, message_of(end), now);
+        return hear_cm(with_told(end, TOLD_AGREED), own, m, now);
     }
-    if end.told != TOLD_AGREED {
-        telling::tell_message(now, end_of(end), b"hears it again: agreed", b"");
-    }
-    next
+    hear_message(end, TOLD_AGREED, b"hears it again: agreed,", m, m, now)
 }
 
 fn hear_cj(end: End, now: u32) -> End {
     if end.told != TOLD_CJ {
         telling::tell_message(now, end_of(end), b"hears CJ", b"");
     }
-    let next = with_told(end, TOLD_CJ);
-    if end_of(end) == steps::ANSWERER {
-        return step(next, steps::CJ, 0, now);
-    }
-    next
+    step(with_told(end, TOLD_CJ), steps::CJ, 0, now)
 }
 
 fn hear_refusal(end: End, number: u8, now: u32) -> End {
@@ -339,34 +257,30 @@ fn hear_refusal(end: End, number: u8, now: u32) -> End {
     with_told(end, number)
 }
 
-// A bit from the line.
-fn hear_bit(end: End, bit: u8, now: u32) -> End {
-    let rec = end.heard;
-    let before = rec.last;
-    let answer = listening::hear(rec, bit);
-    let after = answer.rec;
+// What a bit reports, where `before` is the message reported before it.
+fn hear_report(end: End, own: Record, before: Message, answer: Answer, now: u32) -> End {
+    let rec = answer.rec;
+    let m = rec.msg;
     let heard = answer.heard;
-    let mut next = end;
-    next.heard = after;
     match heard {
-        Heard::Nothing => next,
-        Heard::Ci => hear_ci(next, before, now),
+        Heard::Nothing => end,
+        Heard::Ci => hear_message(end, TOLD_CI, b"hears CI", before, m, now),
         Heard::Menu(agreed) => {
             if agreed {
-                hear_agreed(next, now)
+                hear_agreed(end, own, m, now)
             } else {
-                hear_menu(next, before, now)
+                hear_message(end, TOLD_MENU, b"hears the menu", before, m, now)
             }
         }
-        Heard::Cj => hear_cj(next, now),
-        Heard::Refused(r) => hear_refusal(next, octets::refusal_number(r), now),
+        Heard::Cj => hear_cj(end, now),
+        Heard::Refused(r) => hear_refusal(end, octets::refusal_number(r), now),
     }
 }
 
-// An end that is over hears no bits: its line is in another modulation, or cleared.
-pub fn hear(end: End, bit: u8, now: u32) -> End {
+// An end that is over hears no reports: its line is in another modulation, or cleared.
+pub fn hear(end: End, own: Record, before: Message, answer: Answer, now: u32) -> End {
     if state_of(end) == steps::OVER {
         return end;
     }
-    hear_bit(end, bit, now)
+    hear_report(end, own, before, answer, now)
 }

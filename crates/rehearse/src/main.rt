@@ -11,14 +11,18 @@ mod words;
 use ends::End;
 use ends::Menu;
 use libc::STDIN_FILENO;
+use listening::Listener;
 use octets::Wrote;
 use plans::Plan;
-use plans::Wrong;
+use records::Record;
 ghost use Prim.Native.Nat.{_<_};
 
+// Both ends, and what each of them heard.
 struct Call {
     caller: End,
     answerer: End,
+    caller_line: Listener,
+    answerer_line: Listener,
 }
 
 // A bit as it arrives: inverted where it is damaged.
@@ -35,31 +39,74 @@ fn arriving(bit: u8, damaged: &[u8], place: usize) -> u8 {
     bit
 }
 
-// Both ends at a bit time: a tick for each, the tone, then the bits that go over the line.
-fn at_bit_time(call: Call, time: usize, damaged: &[u8]) -> Call
+// A tick for each end, and the tone.
+fn tick(call: Call, now: u32) -> Call {
+    let caller = call.caller;
+    let answerer = call.answerer;
+    let first = ends::step(caller, steps::TICK, 0, now);
+    let second = ends::step(answerer, steps::TICK, 0, now);
+    let third = ends::hear_tone(first, ends::state_of(second), now);
+    let mut next = call;
+    next.caller = third;
+    next.answerer = second;
+    next
+}
+
+// A bit from the answerer.
+fn caller_hears(call: Call, own: Record, bit: u8, now: u32) -> Call {
+    let line = call.caller_line;
+    let answer = listening::hear(line, bit);
+    let heard = answer.rec;
+    let before = line.last;
+    let end = call.caller;
+    let after = ends::hear(end, own, before, answer, now);
+    let mut next = call;
+    next.caller = after;
+    next.caller_line = heard;
+    next
+}
+
+// A bit from the caller.
+fn answerer_hears(call: Call, own: Record, bit: u8, now: u32) -> Call {
+    let line = call.answerer_line;
+    let answer = listening::hear(line, bit);
+    let heard = answer.rec;
+    let before = line.last;
+    let end = call.answerer;
+    let after = ends::hear(end, own, before, answer, now);
+    let mut next = call;
+    next.answerer = after;
+    next.answerer_line = heard;
+    next
+}
+
+// The bits that go over the line at a bit time. Only the answerer's record is asked for during a call.
+fn exchange(call: Call, own: Record, time: usize, damaged: &[u8], now: u32) -> Call
     requires { ⌜ time < 9000 ⌝ }
 {
-    let now = (time * 10 / 3) as u32;
-    let caller = ends::step(call.caller, steps::TICK, 0, now);
-    let answerer = ends::step(call.answerer, steps::TICK, 0, now);
-    let calling = ends::hear_tone(caller, ends::state_of(answerer), now);
-    let from_caller = arriving(
-        ends::next_bit(calling),
-        damaged,
-        plans::damage_place(time, 0),
+    let caller_place = plans::damage_place(time, 0);
+    let answerer_place = plans::damage_place(time, 1);
+    let caller = call.caller;
+    let answerer = call.answerer;
+    let from_caller = ends::next_bit(caller);
+    let from_answerer = ends::next_bit(answerer);
+    let first = ends::after_bit(caller, from_caller, now);
+    let second = ends::after_bit(answerer, from_answerer, now);
+    let mut next = call;
+    next.caller = first;
+    next.answerer = second;
+    let heard = answerer_hears(
+        next,
+        own,
+        arriving(from_caller.bit, damaged, caller_place),
+        now,
     );
-    let from_answerer = arriving(
-        ends::next_bit(answerer),
-        damaged,
-        plans::damage_place(time, 1),
-    );
-    let sent = ends::after_bit(calling, now);
-    let answered = ends::after_bit(answerer, now);
-    let next_answerer = ends::hear(answered, from_caller, now);
-    Call {
-        caller: ends::hear(sent, from_answerer, now),
-        answerer: next_answerer,
-    }
+    caller_hears(
+        heard,
+        own,
+        arriving(from_answerer.bit, damaged, answerer_place),
+        now,
+    )
 }
 
 fn is_over(call: Call) -> bool {
@@ -72,57 +119,63 @@ fn is_over(call: Call) -> bool {
 }
 
 // Runs the call until both ends are over, or the time is.
-fn run(call: Call, damaged: &[u8]) -> Call {
-    let mut now = call;
+fn run(call: Call, own: Record, damaged: &[u8]) -> Call {
+    let mut at = call;
     let mut time: usize = 0;
     while time < plans::BIT_TIMES {
-        now = at_bit_time(now, time, damaged);
-        if is_over(now) {
-            return now;
+        let now = (time * 10 / 3) as u32;
+        at = exchange(tick(at, now), own, time, damaged, now);
+        if is_over(at) {
+            return at;
         }
         time += 1;
     }
-    now
+    at
 }
 
-fn rehearse(plan: Plan, cm: Menu, damaged: &[u8]) {
-    telling::tell_header();
-    let own = plan.caller;
-    let other = plan.answerer;
+fn begin(cm: Menu) -> Call {
     let none = Menu {
         octets: [0u8; 7],
         len: 0,
     };
-    let caller = ends::begin(own, cm, steps::start_caller_default(0));
-    let answerer = ends::begin(other, none, steps::start_answerer(0));
-    let call = run(
-        Call {
-            caller: caller,
-            answerer: answerer,
-        },
-        damaged,
-    );
-    let end = call.caller;
-    let other_end = call.answerer;
-    telling::tell_ending(end.session, other_end.session);
+    Call {
+        caller: ends::begin(steps::start_caller_default(0), cm),
+        answerer: ends::begin(steps::start_answerer(0), none),
+        caller_line: listening::fresh_line(),
+        answerer_line: listening::fresh_line(),
+    }
+}
+
+// The caller with its CM, the answerer with its record.
+fn rehearse(cm: Menu, own: Record, damaged: &[u8]) {
+    telling::tell(b"   ms  end       what");
+    let call = run(begin(cm), own, damaged);
+    let caller = call.caller;
+    let answerer = call.answerer;
+    let first = caller.session;
+    let second = answerer.session;
+    telling::tell_ending(first, second);
 }
 
 // Makes the CM of the plan's function; where that is refused the function's line is wrong.
-fn call_with(plan: Plan, damaged: &[u8]) {
-    let own = plan.caller;
+fn call_with(text: &[u8], plan: Plan, damaged: &[u8]) {
     let mut octets = [0u8; 7];
-    let made = offers::make_cm(own, plan.function, &mut octets);
+    let made = offers::make_cm(
+        plans::record_in(text, plan.caller),
+        plan.function,
+        &mut octets,
+    );
     match made {
         Wrote::Refused(r) => telling::tell_function_refused(
             plan.function_line,
             octets::refusal_number(r),
         ),
         Wrote::Count(len) => rehearse(
-            plan,
             Menu {
                 octets: octets,
                 len: len,
             },
+            plans::record_in(text, plan.answerer),
             damaged,
         ),
     }
@@ -130,17 +183,15 @@ fn call_with(plan: Plan, damaged: &[u8]) {
 
 fn read_and_call(text: &[u8], damaged: &mut [u8]) {
     if 65535 < text.len() {
-        telling::tell_too_long();
+        telling::tell(b"the text is longer than 65535 bytes");
         return;
     }
-    let reading = plans::read(text, damaged);
-    let wrong = reading.wrong;
-    let Wrong::Nothing = wrong else {
-        telling::tell_wrong(reading.line, wrong);
+    let plan = plans::read(text, damaged);
+    if plan.wrong != plans::NOTHING {
+        telling::tell_wrong(plan.line, plan.wrong);
         return;
-    };
-    let plan = reading.plan;
-    call_with(plan, damaged);
+    }
+    call_with(text, plan, damaged);
 }
 
 fn main() {

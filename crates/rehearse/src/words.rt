@@ -85,6 +85,21 @@ pub fn behind_words(line: &[u8], count: usize) -> usize
     at
 }
 
+// A line of a text, the first at 0; empty where there are fewer.
+pub fn line(text: &[u8], at: usize) -> &[u8] {
+    let mut from: usize = 0;
+    let mut i: usize = 0;
+    while i < at {
+        let to = find(text, from, LINE_END);
+        if to == text.len() {
+            return part(text, 0, 0);
+        }
+        from = to + 1;
+        i += 1;
+    }
+    part(text, from, find(text, from, LINE_END))
+}
+
 // A word of a line, the first at 0; empty where there are fewer.
 pub fn word(line: &[u8], at: usize) -> &[u8] {
     let from = find(line, behind_words(line, at), NOT_BLANK);

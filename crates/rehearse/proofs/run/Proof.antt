@@ -4,16 +4,25 @@ use Rattle.rehearse.proofs.run.Statement.{statement}
 use Rattle.rehearse.proofs.run.Tie as tie
 
 abbrev Inv-loop : tie.InvT-loop
-Inv-loop damaged now₀ time₀ now time = time ≤ 9000
+Inv-loop own damaged at₀ time₀ at time = time ≤ 9000
 
 abbrev μ-loop : tie.MeasureT-loop
-μ-loop damaged now₀ time₀ now time = 9000 - time
+μ-loop own damaged at₀ time₀ at time = 9000 - time
 
 loop-holds : tie.Need-loop-holds Inv-loop μ-loop
 loop-holds c = search needs
 
-at-bit-time-requires : tie.Need-at-bit-time-requires Inv-loop μ-loop
-at-bit-time-requires c κs = search needs
+mul-now : tie.Need-mul-now Inv-loop μ-loop
+mul-now c = search needs
+
+cast-now : tie.Need-cast-now Inv-loop μ-loop
+cast-now c = search needs
+
+tick-requires : tie.Need-tick-requires Inv-loop μ-loop
+tick-requires c κs = search needs
+
+exchange-requires : tie.Need-exchange-requires Inv-loop μ-loop
+exchange-requires c κs = search needs
 
 is-over-requires : tie.Need-is-over-requires Inv-loop μ-loop
 is-over-requires c κs = search needs
@@ -40,7 +49,10 @@ run-spec =
     Inv-loop
     μ-loop
     loop-holds
-    at-bit-time-requires
+    mul-now
+    cast-now
+    tick-requires
+    exchange-requires
     is-over-requires
     returns
     add-time

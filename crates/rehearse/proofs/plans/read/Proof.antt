@@ -11,9 +11,6 @@ Inv-loop text damaged₀ plan₀ at₀ lines₀ damaged plan at lines = (lines �
 abbrev μ-loop : tie.MeasureT-loop
 μ-loop text damaged₀ plan₀ at₀ lines₀ damaged plan at lines = length text - at
 
-no-plan-requires : tie.Need-no-plan-requires Inv-loop μ-loop
-no-plan-requires c κs = search needs
-
 loop-holds : tie.Need-loop-holds Inv-loop μ-loop
 loop-holds c = search needs
 
@@ -37,9 +34,6 @@ part-requires-2 c κs = search needs
 
 read-line-requires : tie.Need-read-line-requires Inv-loop μ-loop
 read-line-requires c κs = search needs
-
-enum-told : tie.Need-enum-told Inv-loop μ-loop
-enum-told c = search needs
 
 same-length : tie.Need-same-length Inv-loop μ-loop
 same-length c = search needs
@@ -68,7 +62,6 @@ read-spec =
     (tie.spec
     Inv-loop
     μ-loop
-    no-plan-requires
     loop-holds
     find-requires
     add-behind
@@ -77,7 +70,6 @@ read-spec =
     find-requires-2
     part-requires-2
     read-line-requires
-    enum-told
     same-length
     returns
     loop-less

@@ -9,9 +9,6 @@ Inv-loop line functions₀ i₀ functions i = i ≤ 6
 abbrev μ-loop : tie.MeasureT-loop
 μ-loop line functions₀ i₀ functions i = 6 - i
 
-no-modes-requires : tie.Need-no-modes-requires Inv-loop μ-loop
-no-modes-requires c κs = search needs
-
 loop-holds : tie.Need-loop-holds Inv-loop μ-loop
 loop-holds c = search needs
 
@@ -24,17 +21,11 @@ word-requires c κs = search needs
 read-modes-requires : tie.Need-read-modes-requires Inv-loop μ-loop
 read-modes-requires c κs = search needs
 
-enum-known-read : tie.Need-enum-known-read Inv-loop μ-loop
-enum-known-read c = search needs
-
 refuse-record-requires : tie.Need-refuse-record-requires Inv-loop μ-loop
 refuse-record-requires c κs = search needs
 
 returns : tie.Need-returns Inv-loop μ-loop
 returns c = search needs
-
-enum-known-read-2 : tie.Need-enum-known-read-2 Inv-loop μ-loop
-enum-known-read-2 c = search needs
 
 mul-functions : tie.Need-mul-functions Inv-loop μ-loop
 mul-functions c = search needs
@@ -51,11 +42,20 @@ loop-less c = search needs
 loop-again : tie.Need-loop-again Inv-loop μ-loop
 loop-again c = search needs
 
-read-rest-requires : tie.Need-read-rest-requires Inv-loop μ-loop
-read-rest-requires c κs = search needs
+rest-wrong-requires : tie.Need-rest-wrong-requires Inv-loop μ-loop
+rest-wrong-requires c κs = search needs
+
+refuse-record-requires-2 : tie.Need-refuse-record-requires-2 Inv-loop μ-loop
+refuse-record-requires-2 c κs = search needs
 
 returns-2 : tie.Need-returns-2 Inv-loop μ-loop
 returns-2 c = search needs
+
+read-rest-requires : tie.Need-read-rest-requires Inv-loop μ-loop
+read-rest-requires c κs = search needs
+
+returns-3 : tie.Need-returns-3 Inv-loop μ-loop
+returns-3 c = search needs
 
 pub read-record-spec : {M : Type 1} → statement M
 read-record-spec =
@@ -63,19 +63,19 @@ read-record-spec =
     (tie.spec
     Inv-loop
     μ-loop
-    no-modes-requires
     loop-holds
     add-word
     word-requires
     read-modes-requires
-    enum-known-read
     refuse-record-requires
     returns
-    enum-known-read-2
     mul-functions
     array-set-from-functions
     add-i
     loop-less
     loop-again
+    rest-wrong-requires
+    refuse-record-requires-2
+    returns-2
     read-rest-requires
-    returns-2)
+    returns-3)
