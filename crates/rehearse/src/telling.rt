@@ -78,9 +78,9 @@ fn put_outcome(out: &mut [u8], at: usize, session: Session) -> usize {
         at,
         b"
 left
-late
-cleared
-not offered
+gave up, late
+cleared, no mode is shared
+ended, the choice was not offered
 goes on with ",
         session,
     )
@@ -165,9 +165,9 @@ fn put_both(out: &mut [u8], session: Session) -> usize {
         0,
         b"
 both ends left
-both ends late
-both ends cleared
-both ends not offered
+both ends gave up, late
+both ends cleared, no mode is shared
+both ends ended, the choice was not offered
 both ends go on with ",
         session,
     )
@@ -176,7 +176,7 @@ both ends go on with ",
 fn put_different(out: &mut [u8], caller: Session, answerer: Session) -> usize {
     let n = put_text(out, 0, b"the ends differ: the caller ");
     let m = put_outcome(out, n, caller);
-    let k = put_text(out, m, b", the answerer ");
+    let k = put_text(out, m, b"; the answerer ");
     put_outcome(out, k, answerer)
 }
 
