@@ -2,9 +2,7 @@
 // the listener and the bits that it sends. It is the loop of examples/line.c.
 use super::telling;
 use super::words::part;
-use listening::Answer;
 use listening::Heard;
-use listening::Message;
 use octets::Kind;
 use octets::Wrote;
 use records::Record;
@@ -16,15 +14,17 @@ pub struct Menu {
     pub len: usize,
 }
 
-// The session, the CM or JM of this end, how many bits are sent of a copy of what its state sends, and the last report of the listener:
-// the number of a refusal, or one of those below.
+// The session, the CM or JM of this end, how many bits are sent of a copy of what its state sends, the bit that it sends now, and the
+// last report of its listener.
 pub struct End {
     pub session: Session,
     pub menu: Menu,
     pub sent: usize,
+    pub bit: u8,
     pub told: u8,
 }
 
+// What a listener reports, besides the number of a refusal.
 const TOLD_NOTHING: u8 = 0;
 
 const TOLD_CI: u8 = 20;
@@ -57,39 +57,6 @@ fn write_copy(state: u8, menu: Menu, bits: &mut [u8]) -> usize {
     0
 }
 
-// The next bit to the line, how many bits of the copy are sent with it, and whether that is the whole copy.
-pub struct Sending {
-    pub bit: u8,
-    pub sent: usize,
-    pub whole: bool,
-}
-
-// A bit of a copy that has so many bits; 1 where nothing is sent.
-fn bit_of(bits: &[u8; 90], len: usize, sent: usize) -> Sending {
-    if sent < 90 {
-        if sent < len {
-            return Sending {
-                bit: bits[sent],
-                sent: sent + 1,
-                whole: sent + 1 == len,
-            };
-        }
-    }
-    Sending {
-        bit: 1,
-        sent: 0,
-        whole: false,
-    }
-}
-
-pub fn next_bit(end: End) -> Sending {
-    let session = end.session;
-    let menu = end.menu;
-    let mut bits = [0u8; 90];
-    let len = write_copy(session.state, menu, &mut bits);
-    bit_of(&bits, len, end.sent)
-}
-
 // An end at the beginning of the call.
 pub fn begin(session: Session, menu: Menu) -> End {
     telling::tell_state(0, session, b"");
@@ -97,6 +64,7 @@ pub fn begin(session: Session, menu: Menu) -> End {
         session: session,
         menu: menu,
         sent: 0,
+        bit: 1,
         told: TOLD_NOTHING,
     }
 }
@@ -127,26 +95,49 @@ pub fn state_of(end: End) -> u8 {
     session.state
 }
 
-// The caller's line card hears ANSam while the answerer sends it.
-pub fn hear_tone(caller: End, answerer_state: u8, now: u32) -> End {
-    if answerer_state == steps::ANSWERING {
-        return step(caller, steps::ANSAM, 0, now);
+// A tick; and the caller's line card hears ANSam while the answerer across sends it.
+fn tick(end: End, across: u8, now: u32) -> End {
+    let next = step(end, steps::TICK, 0, now);
+    if across == steps::ANSWERING {
+        return step(next, steps::ANSAM, 0, now);
     }
-    caller
+    next
 }
 
-// A bit was sent. A menu is sent until the state changes, CJ once.
-pub fn after_bit(end: End, sending: Sending, now: u32) -> End {
+// Sends the next bit of a copy that has so many bits: a menu is sent until the state changes, CJ once.
+fn send(end: End, bits: &[u8; 90], len: usize, now: u32) -> End {
+    let sent = end.sent;
     let mut next = end;
-    if sending.whole {
-        next.sent = 0;
-        if state_of(end) == steps::CLOSING {
-            return step(next, steps::CJ_SENT, 0, now);
+    if sent < 90 {
+        next.bit = bits[sent];
+        next.sent = sent + 1;
+        if sent + 1 == len {
+            next.sent = 0;
+            if state_of(end) == steps::CLOSING {
+                return step(next, steps::CJ_SENT, 0, now);
+            }
         }
+    }
+    next
+}
+
+// The next bit to the line; 1 where nothing is sent.
+fn send_next(end: End, now: u32) -> End {
+    let session = end.session;
+    let menu = end.menu;
+    let mut bits = [1u8; 90];
+    let len = write_copy(session.state, menu, &mut bits);
+    if len == 0 {
+        let mut next = end;
+        next.bit = 1;
         return next;
     }
-    next.sent = sending.sent;
-    next
+    send(end, &bits, len, now)
+}
+
+// An end at a bit time, with the state of the end across: a tick, the tone and the next bit.
+pub fn prepare(end: End, across: u8, now: u32) -> End {
+    send_next(tick(end, across, now), now)
 }
 
 fn end_of(end: End) -> u8 {
@@ -160,53 +151,35 @@ fn with_told(end: End, told: u8) -> End {
     next
 }
 
-fn same_message(a: Message, b: Message) -> bool {
-    let a_octets = a.octets;
-    let b_octets = b.octets;
-    let a_kind = a.kind;
-    let b_kind = b.kind;
-    if a_kind == b_kind {
-        return octets::same(
-            part(&a_octets, 0, a.len as usize),
-            part(&b_octets, 0, b.len as usize),
-        );
+// A report as a number: that of a refusal, or one of those above.
+pub fn told_of(heard: Heard) -> u8 {
+    match heard {
+        Heard::Nothing => TOLD_NOTHING,
+        Heard::Ci => TOLD_CI,
+        Heard::Menu(agreed) => { if agreed { TOLD_AGREED } else { TOLD_MENU } }
+        Heard::Cj => TOLD_CJ,
+        Heard::Refused(r) => octets::refusal_number(r),
     }
-    false
 }
 
-fn tell_message(now: u32, end: u8, what: &[u8], m: Message) {
-    let octets = m.octets;
-    telling::tell_message(now, end, what, part(&octets, 0, m.len as usize));
+// The choice, as an event carries it.
+fn choose(cm: &[u8], jm: &[u8]) -> u8 {
+    codes::carried(codes::choice_code(choices::choice_of(cm, jm)))
 }
 
-// A message that is not agreed, where `before` is the message reported before it: the same report again is not told.
-fn hear_message(end: End, told: u8, what: &[u8], before: Message, m: Message, now: u32) -> End {
-    if end.told == told {
-        if same_message(before, m) {
-            return end;
-        }
-    }
-    tell_message(now, end_of(end), what, m);
-    with_told(end, told)
-}
-
-// The choice, as an event carries it, from the menu of this end and the menu that it heard.
-fn choose(end: u8, menu: Menu, m: Message) -> u8 {
-    let ours = menu.octets;
-    let theirs = m.octets;
-    let own = part(&ours, 0, menu.len);
-    let heard = part(&theirs, 0, m.len as usize);
+// The choice from the menu of this end and the menu that it heard.
+fn choose_by(end: u8, menu: Menu, heard: &[u8]) -> u8 {
+    let octets = menu.octets;
     if end == steps::CALLER {
-        return codes::carried(codes::choice_code(choices::choice_of(own, heard)));
+        return choose(part(&octets, 0, menu.len), heard);
     }
-    codes::carried(codes::choice_code(choices::choice_of(heard, own)))
+    choose(heard, part(&octets, 0, menu.len))
 }
 
 // The JM for a heard CM; without octets where it is refused, which a good record and an agreed menu are not.
-fn jm_for(own: Record, m: Message) -> Menu {
-    let heard = m.octets;
+fn jm_for(own: Record, cm: &[u8]) -> Menu {
     let mut octets = [0u8; 7];
-    let wrote = offers::make_jm(own, part(&heard, 0, m.len as usize), &mut octets);
+    let wrote = offers::make_jm(own, cm, &mut octets);
     Menu {
         octets: octets,
         len: count_of(wrote),
@@ -214,17 +187,17 @@ fn jm_for(own: Record, m: Message) -> Menu {
 }
 
 // The caller's CM is answered.
-fn hear_jm(end: End, m: Message, now: u32) -> End {
+fn hear_jm(end: End, jm: &[u8], now: u32) -> End {
     let menu = end.menu;
-    let value = choose(steps::CALLER, menu, m);
+    let value = choose_by(steps::CALLER, menu, jm);
     telling::tell_agreed(now, steps::CALLER, value);
     step(end, steps::AGREED_JM, value, now)
 }
 
 // A CM is answered with the JM for it.
-fn hear_cm(end: End, own: Record, m: Message, now: u32) -> End {
-    let menu = jm_for(own, m);
-    let value = choose(steps::ANSWERER, menu, m);
+fn hear_cm(end: End, own: Record, cm: &[u8], now: u32) -> End {
+    let menu = jm_for(own, cm);
+    let value = choose_by(steps::ANSWERER, menu, cm);
     telling::tell_agreed(now, steps::ANSWERER, value);
     let mut next = end;
     next.menu = menu;
@@ -232,55 +205,70 @@ fn hear_cm(end: End, own: Record, m: Message, now: u32) -> End {
 }
 
 // A menu is agreed. Where nothing waits for it, it is told once and changes nothing.
-fn hear_agreed(end: End, own: Record, m: Message, now: u32) -> End {
+fn hear_agreed(end: End, own: Record, heard: &[u8], now: u32) -> End {
     let state = state_of(end);
     if state == steps::MENU {
-        return hear_jm(with_told(end, TOLD_AGREED), m, now);
+        return hear_jm(end, heard, now);
     }
     if state == steps::ANSWERING {
-        return hear_cm(with_told(end, TOLD_AGREED), own, m, now);
+        return hear_cm(end, own, heard, now);
     }
-    hear_message(end, TOLD_AGREED, b"hears it again: agreed,", m, m, now)
+    if end.told != TOLD_AGREED {
+        telling::tell_message(now, end_of(end), b"hears it again: agreed,", heard);
+    }
+    end
 }
 
 fn hear_cj(end: End, now: u32) -> End {
     if end.told != TOLD_CJ {
         telling::tell_message(now, end_of(end), b"hears CJ", b"");
     }
-    step(with_told(end, TOLD_CJ), steps::CJ, 0, now)
+    step(end, steps::CJ, 0, now)
+}
+
+// A CI, or a menu that is not agreed: told, unless the report before it was the same.
+fn hear_message(end: End, told: u8, again: bool, heard: &[u8], now: u32) -> End {
+    if again {
+        if end.told == told {
+            return end;
+        }
+    }
+    if told == TOLD_CI {
+        telling::tell_message(now, end_of(end), b"hears CI", heard);
+        return end;
+    }
+    telling::tell_message(now, end_of(end), b"hears the menu", heard);
+    end
 }
 
 fn hear_refusal(end: End, number: u8, now: u32) -> End {
     if end.told != number {
         telling::tell_refusal(now, end_of(end), number);
     }
-    with_told(end, number)
+    end
 }
 
-// What a bit reports, where `before` is the message reported before it.
-fn hear_report(end: End, own: Record, before: Message, answer: Answer, now: u32) -> End {
-    let rec = answer.rec;
-    let m = rec.msg;
-    let heard = answer.heard;
-    match heard {
-        Heard::Nothing => end,
-        Heard::Ci => hear_message(end, TOLD_CI, b"hears CI", before, m, now),
-        Heard::Menu(agreed) => {
-            if agreed {
-                hear_agreed(end, own, m, now)
-            } else {
-                hear_message(end, TOLD_MENU, b"hears the menu", before, m, now)
-            }
-        }
-        Heard::Cj => hear_cj(end, now),
-        Heard::Refused(r) => hear_refusal(end, octets::refusal_number(r), now),
+fn hear_report(end: End, own: Record, told: u8, again: bool, heard: &[u8], now: u32) -> End {
+    if told == TOLD_AGREED {
+        return hear_agreed(end, own, heard, now);
     }
+    if told == TOLD_CJ {
+        return hear_cj(end, now);
+    }
+    if told < TOLD_CI {
+        return hear_refusal(end, told, now);
+    }
+    hear_message(end, told, again, heard, now)
 }
 
-// An end that is over hears no reports: its line is in another modulation, or cleared.
-pub fn hear(end: End, own: Record, before: Message, answer: Answer, now: u32) -> End {
+// What the listener of an end reports, with the octets of a message, and whether it is that of the report before. An end that is over
+// hears nothing: its line is in another modulation, or cleared.
+pub fn hear(end: End, own: Record, told: u8, again: bool, heard: &[u8], now: u32) -> End {
+    if told == TOLD_NOTHING {
+        return end;
+    }
     if state_of(end) == steps::OVER {
         return end;
     }
-    hear_report(end, own, before, answer, now)
+    with_told(hear_report(end, own, told, again, heard, now), told)
 }

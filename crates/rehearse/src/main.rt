@@ -12,18 +12,30 @@ use ends::End;
 use ends::Menu;
 use libc::STDIN_FILENO;
 use listening::Listener;
+use listening::Message;
 use octets::Wrote;
 use plans::Plan;
 use records::Record;
+use steps::Session;
 ghost use Prim.Native.Nat.{_<_};
 
-// Both ends, and what each of them heard.
-struct Call {
-    caller: End,
-    answerer: End,
-    caller_line: Listener,
-    answerer_line: Listener,
+// An end, and the record of what it hears.
+struct Line {
+    end: End,
+    ear: Listener,
 }
+
+// What a bit reports, and whether it is the message of the report before.
+struct Report {
+    ear: Listener,
+    told: u8,
+    again: bool,
+}
+
+// Where both ends stand among the lines.
+const CALLER: usize = 0;
+
+const ANSWERER: usize = 1;
 
 // A bit as it arrives: inverted where it is damaged.
 fn arriving(bit: u8, damaged: &[u8], place: usize) -> u8 {
@@ -39,122 +51,165 @@ fn arriving(bit: u8, damaged: &[u8], place: usize) -> u8 {
     bit
 }
 
-// A tick for each end, and the tone.
-fn tick(call: Call, now: u32) -> Call {
-    let caller = call.caller;
-    let answerer = call.answerer;
-    let first = ends::step(caller, steps::TICK, 0, now);
-    let second = ends::step(answerer, steps::TICK, 0, now);
-    let third = ends::hear_tone(first, ends::state_of(second), now);
-    let mut next = call;
-    next.caller = third;
-    next.answerer = second;
-    next
+fn same_message(a: Message, b: Message) -> bool {
+    let a_octets = a.octets;
+    let b_octets = b.octets;
+    let a_kind = a.kind;
+    let b_kind = b.kind;
+    if a_kind == b_kind {
+        return octets::same(
+            words::part(&a_octets, 0, a.len as usize),
+            words::part(&b_octets, 0, b.len as usize),
+        );
+    }
+    false
 }
 
-// A bit from the answerer.
-fn caller_hears(call: Call, own: Record, bit: u8, now: u32) -> Call {
-    let line = call.caller_line;
-    let answer = listening::hear(line, bit);
-    let heard = answer.rec;
-    let before = line.last;
-    let end = call.caller;
-    let after = ends::hear(end, own, before, answer, now);
-    let mut next = call;
-    next.caller = after;
-    next.caller_line = heard;
-    next
+fn listen(ear: Listener, bit: u8) -> Report {
+    let answer = listening::hear(ear, bit);
+    let heard = answer.heard;
+    let after = answer.rec;
+    Report {
+        ear: after,
+        told: ends::told_of(heard),
+        again: same_message(ear.last, after.msg),
+    }
 }
 
-// A bit from the caller.
-fn answerer_hears(call: Call, own: Record, bit: u8, now: u32) -> Call {
-    let line = call.answerer_line;
-    let answer = listening::hear(line, bit);
-    let heard = answer.rec;
-    let before = line.last;
-    let end = call.answerer;
-    let after = ends::hear(end, own, before, answer, now);
-    let mut next = call;
-    next.answerer = after;
-    next.answerer_line = heard;
-    next
-}
-
-// The bits that go over the line at a bit time. Only the answerer's record is asked for during a call.
-fn exchange(call: Call, own: Record, time: usize, damaged: &[u8], now: u32) -> Call
-    requires { ⌜ time < 9000 ⌝ }
-{
-    let caller_place = plans::damage_place(time, 0);
-    let answerer_place = plans::damage_place(time, 1);
-    let caller = call.caller;
-    let answerer = call.answerer;
-    let from_caller = ends::next_bit(caller);
-    let from_answerer = ends::next_bit(answerer);
-    let first = ends::after_bit(caller, from_caller, now);
-    let second = ends::after_bit(answerer, from_answerer, now);
-    let mut next = call;
-    next.caller = first;
-    next.answerer = second;
-    let heard = answerer_hears(
-        next,
+fn hear_message(end: End, own: Record, told: u8, again: bool, m: Message, now: u32) -> End {
+    let octets = m.octets;
+    ends::hear(
+        end,
         own,
-        arriving(from_caller.bit, damaged, caller_place),
-        now,
-    );
-    caller_hears(
-        heard,
-        own,
-        arriving(from_answerer.bit, damaged, answerer_place),
+        told,
+        again,
+        words::part(&octets, 0, m.len as usize),
         now,
     )
 }
 
-fn is_over(call: Call) -> bool {
-    let caller = call.caller;
-    let answerer = call.answerer;
-    if ends::state_of(caller) == steps::OVER {
-        return ends::state_of(answerer) == steps::OVER;
+fn hear_bit(line: Line, own: Record, bit: u8, now: u32) -> Line {
+    let ear = line.ear;
+    let end = line.end;
+    let report = listen(ear, bit);
+    let after = report.ear;
+    let m = after.msg;
+    let next = hear_message(end, own, report.told, report.again, m, now);
+    Line {
+        end: next,
+        ear: after,
+    }
+}
+
+// A bit that arrives at one of both ends.
+fn hear(lines: [Line; 2], which: usize, own: Record, bit: u8, now: u32) -> [Line; 2]
+    requires { ⌜ which < 2 ⌝ }
+{
+    let line = lines[which];
+    let mut next = lines;
+    next[which] = hear_bit(line, own, bit, now);
+    next
+}
+
+fn state_of(lines: [Line; 2], which: usize) -> u8
+    requires { ⌜ which < 2 ⌝ }
+{
+    let line = lines[which];
+    let end = line.end;
+    ends::state_of(end)
+}
+
+fn prepare_line(line: Line, across: u8, now: u32) -> Line {
+    let end = line.end;
+    let next = ends::prepare(end, across, now);
+    let mut after = line;
+    after.end = next;
+    after
+}
+
+// One of both ends at a bit time, before bits are heard.
+fn prepare(lines: [Line; 2], which: usize, now: u32) -> [Line; 2]
+    requires { ⌜ which < 2 ⌝ }
+{
+    let across = state_of(lines, 1 - which);
+    let line = lines[which];
+    let mut next = lines;
+    next[which] = prepare_line(line, across, now);
+    next
+}
+
+// The bit that one of both ends sends, as it arrives.
+fn bit_from(lines: [Line; 2], which: usize, damaged: &[u8], time: usize) -> u8
+    requires { ⌜ (which < 2) × (time < 9000) ⌝ }
+{
+    let place = plans::damage_place(time, which);
+    let line = lines[which];
+    let end = line.end;
+    arriving(end.bit, damaged, place)
+}
+
+// Both ends at a bit time. Only the answerer's record is asked for during a call.
+fn at_bit_time(lines: [Line; 2], own: Record, damaged: &[u8], time: usize) -> [Line; 2]
+    requires { ⌜ time < 9000 ⌝ }
+{
+    let now = (time * 10 / 3) as u32;
+    let ready = prepare(prepare(lines, CALLER, now), ANSWERER, now);
+    let from_caller = bit_from(ready, CALLER, damaged, time);
+    let from_answerer = bit_from(ready, ANSWERER, damaged, time);
+    hear(
+        hear(ready, ANSWERER, own, from_caller, now),
+        CALLER,
+        own,
+        from_answerer,
+        now,
+    )
+}
+
+fn is_over(lines: [Line; 2]) -> bool {
+    if state_of(lines, CALLER) == steps::OVER {
+        return state_of(lines, ANSWERER) == steps::OVER;
     }
     false
 }
 
 // Runs the call until both ends are over, or the time is.
-fn run(call: Call, own: Record, damaged: &[u8]) -> Call {
-    let mut at = call;
+fn run(lines: [Line; 2], own: Record, damaged: &[u8]) -> [Line; 2] {
+    let mut at = lines;
     let mut time: usize = 0;
     while time < plans::BIT_TIMES {
-        let now = (time * 10 / 3) as u32;
-        at = exchange(tick(at, now), own, time, damaged, now);
-        if is_over(at) {
-            return at;
+        let next = at_bit_time(at, own, damaged, time);
+        if is_over(next) {
+            return next;
         }
+        at = next;
         time += 1;
     }
     at
 }
 
-fn begin(cm: Menu) -> Call {
-    let none = Menu {
-        octets: [0u8; 7],
-        len: 0,
-    };
-    Call {
-        caller: ends::begin(steps::start_caller_default(0), cm),
-        answerer: ends::begin(steps::start_answerer(0), none),
-        caller_line: listening::fresh_line(),
-        answerer_line: listening::fresh_line(),
+fn begin(session: Session, menu: Menu) -> Line {
+    Line {
+        end: ends::begin(session, menu),
+        ear: listening::fresh_line(),
     }
+}
+
+fn session_of(line: Line) -> Session {
+    let end = line.end;
+    end.session
 }
 
 // The caller with its CM, the answerer with its record.
 fn rehearse(cm: Menu, own: Record, damaged: &[u8]) {
     telling::tell(b"   ms  end       what");
-    let call = run(begin(cm), own, damaged);
-    let caller = call.caller;
-    let answerer = call.answerer;
-    let first = caller.session;
-    let second = answerer.session;
-    telling::tell_ending(first, second);
+    let none = Menu {
+        octets: [0u8; 7],
+        len: 0,
+    };
+    let caller = begin(steps::start_caller_default(0), cm);
+    let answerer = begin(steps::start_answerer(0), none);
+    let lines = run([caller, answerer], own, damaged);
+    telling::tell_ending(session_of(lines[CALLER]), session_of(lines[ANSWERER]));
 }
 
 // Makes the CM of the plan's function; where that is refused the function's line is wrong.

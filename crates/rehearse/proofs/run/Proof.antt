@@ -12,17 +12,8 @@ abbrev μ-loop : tie.MeasureT-loop
 loop-holds : tie.Need-loop-holds Inv-loop μ-loop
 loop-holds c = search needs
 
-mul-now : tie.Need-mul-now Inv-loop μ-loop
-mul-now c = search needs
-
-cast-now : tie.Need-cast-now Inv-loop μ-loop
-cast-now c = search needs
-
-tick-requires : tie.Need-tick-requires Inv-loop μ-loop
-tick-requires c κs = search needs
-
-exchange-requires : tie.Need-exchange-requires Inv-loop μ-loop
-exchange-requires c κs = search needs
+at-bit-time-requires : tie.Need-at-bit-time-requires Inv-loop μ-loop
+at-bit-time-requires c κs = search needs
 
 is-over-requires : tie.Need-is-over-requires Inv-loop μ-loop
 is-over-requires c κs = search needs
@@ -49,10 +40,7 @@ run-spec =
     Inv-loop
     μ-loop
     loop-holds
-    mul-now
-    cast-now
-    tick-requires
-    exchange-requires
+    at-bit-time-requires
     is-over-requires
     returns
     add-time
