@@ -32,10 +32,10 @@ struct Report {
     again: bool,
 }
 
-// Where both ends stand among the lines.
-const CALLER: usize = 0;
-
-const ANSWERER: usize = 1;
+struct Call {
+    caller: Line,
+    answerer: Line,
+}
 
 // A bit as it arrives: inverted where it is damaged.
 fn arriving(bit: u8, damaged: &[u8], place: usize) -> u8 {
@@ -101,25 +101,17 @@ fn hear_bit(line: Line, own: Record, bit: u8, now: u32) -> Line {
     }
 }
 
-// A bit that arrives at one of both ends.
-fn hear(lines: [Line; 2], which: usize, own: Record, bit: u8, now: u32) -> [Line; 2]
-    requires { ⌜ which < 2 ⌝ }
-{
-    let line = lines[which];
-    let mut next = lines;
-    next[which] = hear_bit(line, own, bit, now);
-    next
-}
-
-fn state_of(lines: [Line; 2], which: usize) -> u8
-    requires { ⌜ which < 2 ⌝ }
-{
-    let line = lines[which];
+fn state_of(line: Line) -> u8 {
     let end = line.end;
     ends::state_of(end)
 }
 
-fn prepare_line(line: Line, across: u8, now: u32) -> Line {
+fn bit_of(line: Line) -> u8 {
+    let end = line.end;
+    end.bit
+}
+
+fn prepare(line: Line, across: u8, now: u32) -> Line {
     let end = line.end;
     let next = ends::prepare(end, across, now);
     let mut after = line;
@@ -127,61 +119,54 @@ fn prepare_line(line: Line, across: u8, now: u32) -> Line {
     after
 }
 
-// One of both ends at a bit time, before bits are heard.
-fn prepare(lines: [Line; 2], which: usize, now: u32) -> [Line; 2]
-    requires { ⌜ which < 2 ⌝ }
-{
-    let across = state_of(lines, 1 - which);
-    let line = lines[which];
-    let mut next = lines;
-    next[which] = prepare_line(line, across, now);
-    next
+// Both ends at a bit time, before bits are heard.
+fn prepare_both(call: Call, now: u32) -> Call {
+    let caller = call.caller;
+    let answerer = call.answerer;
+    let across = state_of(answerer);
+    let first = prepare(caller, across, now);
+    let second = prepare(answerer, state_of(first), now);
+    Call {
+        caller: first,
+        answerer: second,
+    }
 }
 
-// The bit that one of both ends sends, as it arrives.
-fn bit_from(lines: [Line; 2], which: usize, damaged: &[u8], time: usize) -> u8
-    requires { ⌜ (which < 2) × (time < 9000) ⌝ }
-{
-    let place = plans::damage_place(time, which);
-    let line = lines[which];
-    let end = line.end;
-    arriving(end.bit, damaged, place)
-}
-
-// Both ends at a bit time. Only the answerer's record is asked for during a call.
-fn at_bit_time(lines: [Line; 2], own: Record, damaged: &[u8], time: usize) -> [Line; 2]
+// The bits of both ends arrive. Only the answerer's record is asked for during a call.
+fn hear_both(call: Call, own: Record, damaged: &[u8], time: usize, now: u32) -> Call
     requires { ⌜ time < 9000 ⌝ }
 {
-    let now = (time * 10 / 3) as u32;
-    let ready = prepare(prepare(lines, CALLER, now), ANSWERER, now);
-    let from_caller = bit_from(ready, CALLER, damaged, time);
-    let from_answerer = bit_from(ready, ANSWERER, damaged, time);
-    hear(
-        hear(ready, ANSWERER, own, from_caller, now),
-        CALLER,
-        own,
-        from_answerer,
-        now,
-    )
+    let caller = call.caller;
+    let answerer = call.answerer;
+    let from_caller = arriving(bit_of(caller), damaged, plans::damage_place(time, 0));
+    let from_answerer = arriving(bit_of(answerer), damaged, plans::damage_place(time, 1));
+    let second = hear_bit(answerer, own, from_caller, now);
+    let first = hear_bit(caller, own, from_answerer, now);
+    Call {
+        caller: first,
+        answerer: second,
+    }
 }
 
-fn is_over(lines: [Line; 2]) -> bool {
-    if state_of(lines, CALLER) == steps::OVER {
-        return state_of(lines, ANSWERER) == steps::OVER;
+fn is_over(call: Call) -> bool {
+    let caller = call.caller;
+    let answerer = call.answerer;
+    if state_of(caller) == steps::OVER {
+        return state_of(answerer) == steps::OVER;
     }
     false
 }
 
 // Runs the call until both ends are over, or the time is.
-fn run(lines: [Line; 2], own: Record, damaged: &[u8]) -> [Line; 2] {
-    let mut at = lines;
+fn run(call: Call, own: Record, damaged: &[u8]) -> Call {
+    let mut at = call;
     let mut time: usize = 0;
     while time < plans::BIT_TIMES {
-        let next = at_bit_time(at, own, damaged, time);
-        if is_over(next) {
-            return next;
+        let now = (time * 10 / 3) as u32;
+        at = hear_both(prepare_both(at, now), own, damaged, time, now);
+        if is_over(at) {
+            return at;
         }
-        at = next;
         time += 1;
     }
     at
@@ -199,6 +184,12 @@ fn session_of(line: Line) -> Session {
     end.session
 }
 
+fn tell_ending(call: Call) {
+    let caller = call.caller;
+    let answerer = call.answerer;
+    telling::tell_ending(session_of(caller), session_of(answerer));
+}
+
 // The caller with its CM, the answerer with its record.
 fn rehearse(cm: Menu, own: Record, damaged: &[u8]) {
     telling::tell(b"   ms  end       what");
@@ -206,10 +197,11 @@ fn rehearse(cm: Menu, own: Record, damaged: &[u8]) {
         octets: [0u8; 7],
         len: 0,
     };
-    let caller = begin(steps::start_caller_default(0), cm);
-    let answerer = begin(steps::start_answerer(0), none);
-    let lines = run([caller, answerer], own, damaged);
-    telling::tell_ending(session_of(lines[CALLER]), session_of(lines[ANSWERER]));
+    let call = Call {
+        caller: begin(steps::start_caller_default(0), cm),
+        answerer: begin(steps::start_answerer(0), none),
+    };
+    tell_ending(run(call, own, damaged));
 }
 
 // Makes the CM of the plan's function; where that is refused the function's line is wrong.

@@ -12,8 +12,17 @@ abbrev μ-loop : tie.MeasureT-loop
 loop-holds : tie.Need-loop-holds Inv-loop μ-loop
 loop-holds c = search needs
 
-at-bit-time-requires : tie.Need-at-bit-time-requires Inv-loop μ-loop
-at-bit-time-requires c κs = search needs
+mul-now : tie.Need-mul-now Inv-loop μ-loop
+mul-now c = search needs
+
+cast-now : tie.Need-cast-now Inv-loop μ-loop
+cast-now c = search needs
+
+prepare-both-requires : tie.Need-prepare-both-requires Inv-loop μ-loop
+prepare-both-requires c κs = search needs
+
+hear-both-requires : tie.Need-hear-both-requires Inv-loop μ-loop
+hear-both-requires c κs = search needs
 
 is-over-requires : tie.Need-is-over-requires Inv-loop μ-loop
 is-over-requires c κs = search needs
@@ -40,7 +49,10 @@ run-spec =
     Inv-loop
     μ-loop
     loop-holds
-    at-bit-time-requires
+    mul-now
+    cast-now
+    prepare-both-requires
+    hear-both-requires
     is-over-requires
     returns
     add-time
