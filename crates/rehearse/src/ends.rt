@@ -74,8 +74,8 @@ fn tell_state(now: u32, session: Session, menu: Menu) {
     telling::tell_state(now, session, part(&octets, 0, menu.len));
 }
 
-// An event with its time: a state that is entered is told, and what it sends starts anew.
-pub fn step(end: End, event: u8, value: u8, now: u32) -> End {
+// An event with its time. Where something changes it is the state: the one that is entered is told, and what it sends starts anew.
+fn step(end: End, event: u8, value: u8, now: u32) -> End {
     let session = end.session;
     let stepped = steps::step(session, event, value, now);
     let after = stepped.session;

@@ -1,7 +1,16 @@
 // Rehearses a call: reads the records of both ends, the caller's function and the bits that are damaged on their way, runs both ends
 // over a line of 300 bit/s, and prints when each end enters which state, what it hears and sends, and what it goes on with.
 //
-// What is wrong with the text is told in one line, and nothing is rehearsed.
+// The text has a line each for 'caller' and 'answerer', with a record as the test vectors write it, and for 'function', in any order:
+//
+//     caller 0:0000:0 0:0000:0 0:0000:0 0:0000:0 0:0000:0 1:101A:0 6 1000
+//     answerer 0:0000:0 0:0000:0 0:0000:0 0:0000:0 0:0000:0 1:0118:0 6 0000
+//     function 6
+//     damaged caller 700 701 950
+//
+// A record is six functions AVAILABLE:ITEMS:PCM, the home function, and a digit each for LAPM wanted, access wanted, cellular and
+// digital. Bits that arrive inverted are counted from the call's beginning, bit n at n * 10 / 3 ms; lines for them may be missing, or
+// several. What follows a # is a comment. What is wrong with the text is told in one line, and nothing is rehearsed.
 mod ends;
 mod plans;
 mod printing;

@@ -1,5 +1,4 @@
 // The lines of the timeline, and the one line that says what is wrong with a text.
-use super::printing::put;
 use super::printing::put_decimal;
 use super::printing::put_octets;
 use super::printing::put_text;
@@ -14,20 +13,14 @@ fn put_front(out: &mut [u8], now: u32, end: u8) -> usize {
     let k = io::decimal(now as u64, &mut digits);
     let n = put_text(out, 0, part(b"     ", k, 5));
     let m = put_text(out, n, &digits[..k]);
-    put_text(
-        out,
-        m,
-        line(
-            b"
-  caller    
-  answerer  ",
-            end as usize,
-        ),
-    )
+    if end == steps::CALLER {
+        return put_text(out, m, b"  caller    ");
+    }
+    put_text(out, m, b"  answerer  ")
 }
 
 // A choice as a session holds it and an event carries it: 0 for none, an item, 16 and the PCM options of JM that pair, or that it is
-// refused. Items have their names of document 01.
+// refused; 13 to 16 are no choice. Items have their names of document 01.
 fn put_choice(out: &mut [u8], at: usize, choice: u8) -> usize {
     put_text(
         out,
