@@ -1,12 +1,12 @@
 -- Many bits, one at a time: what a loop over them cites.
 -- Assumes nothing.
-use Prim.Native.Nat.{ℕ, _<_, _≤_, _+_}
+use Prim.Native.Nat.{ℕ, zero, suc, _<_, _≤_, _+_}
 use native.Mathlib.Numerals.{add-one}
 use native.Mathlib.Omega.{arith}
 use mathlib.Core.Path.{_≡_, refl, sym, ap, _∙_}
-use mathlib.Core.Bool.{true, false}
+use mathlib.Core.Bool.{Bool, true, false}
 use mathlib.Core.List.{List, [], _∷_}
-use borrow.Author.Tests.{lt-ltb, le-ltb, ltb-true}
+use borrow.Author.Tests.{lt-ltb, le-ltb, ltb-true, ltb-false, eqb-true, eqb-false}
 use lib.Dec.{ltb, eqb}
 use lib.ListN.{length, drop, getD, drop-of-length-le}
 use lib.Seq.{drop-cons}
@@ -15,7 +15,10 @@ use Rattle.laws.proofs.Chosen.{chosen}
 use Rattle.listening.specs.declared.Message.{Message}
 use Rattle.listening.specs.declared.Listener.{Listener}
 use Rattle.framing.specs.declared.Stepped.{Stepped}
-use Rattle.framing.specs.Framing.{stepped}
+use Rattle.framing.specs.Framing.{stepped, stay}
+use Rattle.leaps.specs.declared.Advanced.{Advanced}
+use Rattle.leaps.specs.Leaps.{turnedBy, advancedTo, advanced}
+use Rattle.leaps.proofs.Steps.{advanced-end, advanced-on, advanced-asked}
 use Rattle.listening.specs.Hearing.{Told, silence, ci, menu, cj, refusal, Outcome, Many, changed, agreed, reported, told, acted, refuses, heardIn, silent, listened, heardMany, finished}
 use Rattle.listening.specs.Record.{Fits}
 use Rattle.listening.proofs.Acts.{changed-not, acted-other}
@@ -83,6 +86,65 @@ module _ (rec : Listener) (s : List ℕ) (i n : ℕ) where
     listened-told q =
         let kept = changed-not (rec .msg) (t .act) (t .ear .past) (λ z. omega (arith, q, z)) (λ z. omega (arith, q, z)) (λ z. omega (arith, q, z)) in
         listened-stop h (acted rec t) heard-step (told-loud (t .act) (rec .msg) (rec .last) q) ∙ simp kept
+
+-- what follows where bits were heard up to the first that asks for something
+abbrev pub onward : Listener → List ℕ → Advanced → Many
+onward rec s a =
+    choose (ltb 3 (a .act)) (finished (a .ear) (rec .msg) (rec .last) (a .act) (a .at))
+    (listened (record { ear = a .ear; msg = changed (rec .msg) (a .act) (a .ear .past); last = rec .last }) (drop (a .at) s) (a .at))
+
+module _ (rec : Listener) (s : List ℕ) (a : Advanced) where
+  pub onward-told : 3 < a .act → onward rec s a ≡ finished (a .ear) (rec .msg) (rec .last) (a .act) (a .at)
+  unfolding choose
+  onward-told h = simp (lt-ltb 3 (a .act) h)
+
+  pub onward-quiet : a .act ≤ 3 → onward rec s a ≡ listened (record { ear = a .ear; msg = changed (rec .msg) (a .act) (a .ear .past); last = rec .last }) (drop (a .at) s) (a .at)
+  unfolding choose
+  onward-quiet h = simp (le-ltb 3 (a .act) h)
+
+  -- a byte that is no bit
+  pub onward-not-a-bit : a .act ≡ 17 → onward rec s a ≡ record { report = refusal 1; rec = record { ear = a .ear; msg = rec .msg; last = rec .last }; taken = a .at }
+  unfolding told choose
+  onward-not-a-bit e = ap (λ (act : ℕ). onward rec s (record { ear = a .ear; act = act; at = a .at })) e
+
+-- many bits are heard as one is
+module _ (s : List ℕ) where
+  first-heard : (rec : Listener) (i : ℕ) → i < length s → listened rec (drop i s) i ≡ onward rec s (advancedTo (turnedBy (rec .ear) (rec .msg .len) (getD s i 0)) (i + 1))
+  unfolding told choose
+  first-heard rec i h =
+      let bit = getD s i 0 in
+      let t = stepped (rec .ear) (rec .msg .len) bit in
+      chosen (λ (t : Stepped). listened rec (drop i s) i ≡ onward rec s (advancedTo t (i + 1))) (ltb 1 bit) (stay (rec .ear) 17) t
+      (λ no. listened-not-a-bit rec s i i h (ltb-true 1 bit no))
+      (λ yes.
+      chosen (λ (m : Many). listened rec (drop i s) i ≡ m) (ltb 3 (t .act)) _ _
+      (λ told. listened-told rec s i i h (ltb-false 1 bit yes) t refl (ltb-true 3 (t .act) told))
+      (λ quiet. listened-quiet rec s i i h (ltb-false 1 bit yes) t refl (omega (arith, ltb-false 3 (t .act) quiet))))
+
+  module _ (rec : Listener) (i : ℕ) (later : (next : Listener) → i < length s → listened next (drop (i + 1) s) (i + 1) ≡ onward next s (advanced (next .ear) (next .msg .len) (drop (i + 1) s) (i + 1))) where
+    by-act : i < length s → (asks : Bool) → eqb (turnedBy (rec .ear) (rec .msg .len) (getD s i 0) .act) 0 ≡ asks → listened rec (drop i s) i ≡ onward rec s (advanced (rec .ear) (rec .msg .len) (drop i s) i)
+    unfolding changed choose
+    by-act h true e =
+        let t = turnedBy (rec .ear) (rec .msg .len) (getD s i 0) in
+        let none = eqb-true (t .act) 0 e in
+        let next : Listener = record { ear = t .ear; msg = rec .msg; last = rec .last } in
+        let on : onward rec s (advancedTo t (i + 1)) ≡ listened next (drop (i + 1) s) (i + 1) = ap (λ (act : ℕ). onward rec s (record { ear = t .ear; act = act; at = i + 1 })) none in
+        first-heard rec i h ∙ on ∙ later next h ∙ ap (onward rec s) (sym (advanced-on (rec .ear) (rec .msg .len) s i i h t refl none))
+    by-act h false e =
+        let t = turnedBy (rec .ear) (rec .msg .len) (getD s i 0) in
+        first-heard rec i h ∙ ap (onward rec s) (sym (advanced-asked (rec .ear) (rec .msg .len) s i i h t refl (eqb-false (t .act) 0 e)))
+
+    by-end : (more : Bool) → ltb i (length s) ≡ more → listened rec (drop i s) i ≡ onward rec s (advanced (rec .ear) (rec .msg .len) (drop i s) i)
+    unfolding changed choose
+    by-end true e = by-act (ltb-true i (length s) e) (eqb (turnedBy (rec .ear) (rec .msg .len) (getD s i 0) .act) 0) refl
+    by-end false e = ap (onward rec s) (sym (advanced-end (rec .ear) (rec .msg .len) s i i (ltb-false i (length s) e)))
+
+  left-heard : (left : ℕ) (rec : Listener) (i : ℕ) → length s ≤ i + left → listened rec (drop i s) i ≡ onward rec s (advanced (rec .ear) (rec .msg .len) (drop i s) i)
+  left-heard zero rec i h = by-end rec i (λ next more. absurd (let z : ⊥ = omega arith in z)) (ltb i (length s)) refl
+  left-heard (suc left) rec i h = by-end rec i (λ next more. left-heard left next (i + 1) (omega arith)) (ltb i (length s)) refl
+
+  pub advanced-heard : (rec : Listener) (i : ℕ) → listened rec (drop i s) i ≡ onward rec s (advanced (rec .ear) (rec .msg .len) (drop i s) i)
+  advanced-heard rec i = left-heard (length s) rec i (omega arith)
 
 -- of some bits at least one is taken, and no more than there are
 module _ (bits : List ℕ) where

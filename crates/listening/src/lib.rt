@@ -327,9 +327,11 @@ fn run(rec: Listener, bits: &[u8]) -> Ran
     let last = rec.last;
     let mut i: usize = 0;
     while i < bits.len() {
-        let bit = bits[i];
-        i += 1;
-        if 1 < bit {
+        let a = leaps::advance(ear, msg.len, bits, i);
+        ear = a.ear;
+        i = a.at;
+        let act = a.act;
+        if act == 17 {
             return Ran {
                 rec: Listener {
                     ear: ear,
@@ -340,13 +342,16 @@ fn run(rec: Listener, bits: &[u8]) -> Ran
                 heard: Heard::Refused(Refusal::NotABit),
             };
         }
-        let s = framing::step(ear, msg.len, bit);
-        ear = s.ear;
-        let act = s.act;
         if 3 < act {
             return finish(ear, msg, last, act, i);
         }
-        if act != 0 {
+        if act == 3 {
+            // in place: an octet comes often, and the message is large
+            let n = msg.len;
+            let at = n as usize;
+            msg.octets[at] = framing::octet_heard(ear.past);
+            msg.len = n + 1;
+        } else {
             msg = change(msg, act, ear.past);
         }
     }
