@@ -1,2 +1,4 @@
 pub mod Steps
 pub mod Ranges
+pub mod Spans
+pub mod Tens

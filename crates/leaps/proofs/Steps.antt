@@ -17,7 +17,7 @@ use Rattle.framing.specs.declared.Stepped.{Stepped}
 use Rattle.framing.specs.Framing.{pushed, more, isCj, lastTen, go, hunted, turned, stepped, stay, steppedTo}
 use Rattle.leaps.specs.declared.Advanced.{Advanced}
 use Rattle.leaps.specs.declared.Passed.{Passed}
-use Rattle.leaps.specs.Leaps.{turnedBy, advancedTo, advanced, full, reached, resumed, standsOut, Leads, Passes}
+use Rattle.leaps.specs.Leaps.{turnedBy, advancedTo, advanced, full, resumed, standsOut, Leads, Passes}
 
 -- one bit of many
 module _ (ear : Ear) (len : ℕ) (s : List ℕ) (i n : ℕ) where
@@ -48,7 +48,7 @@ module _ (r : Advanced) (len : ℕ) (s : List ℕ) where
   resumed-asked q = simp (ne-eqb _ _ q)
 
 -- a bit turns a full ear, where it brings no CJ
-turned-full : (past place len bit : ℕ) → bit ≤ 1 → (pushed past bit / 4 ≡ 537395712 → ⊥) → turnedBy (full past place) len bit ≡ steppedTo (pushed past bit) 30 (turned place past (pushed past bit) len bit)
+pub turned-full : (past place len bit : ℕ) → bit ≤ 1 → (pushed past bit / 4 ≡ 537395712 → ⊥) → turnedBy (full past place) len bit ≡ steppedTo (pushed past bit) 30 (turned place past (pushed past bit) len bit)
 unfolding stepped isCj more choose both
 turned-full past place len bit b c = simp (le-ltb 1 bit b, ne-eqb _ _ c)
 
@@ -71,12 +71,17 @@ goes-by past len bit b f =
     let tests = either-false _ _ f in
     sym (turned-full past 0 len bit b (eqb-false _ _ (tests .0)) ∙ simp (still-hunting past bit (eqb-false _ _ (tests .1))))
 
--- no leap, and one over the bits that go by
+-- no leap
 pub stays : (ear : Ear) (len : ℕ) (s : List ℕ) (from : ℕ) → Leads ear len s from (advancedTo (stay ear 0) from)
 stays ear len s from = record { on = omega arith; same = sym (resumed-on (advancedTo (stay ear 0) from) len s refl) }
 
 pub is-full : (ear : Ear) (place : ℕ) → ear .heard ≡ 30 → ear .place ≡ place → ear ≡ full (ear .past) place
 is-full ear place h p = ap₂ (λ (n k : ℕ). record { past = ear .past; heard = n; place = k }) h p
 
-pub hunting-leads : (past len : ℕ) (s : List ℕ) (from : ℕ) (p : Passed) → Passes past s from p → Leads (full past 0) len s from (reached (p .past) 0 0 (p .at))
-hunting-leads past len s from p passes = record { on = passes .on; same = passes .same len ∙ sym (resumed-on (reached (p .past) 0 0 (p .at)) len s refl) }
+-- a leap to a bit that asks for something
+pub leads-asked : (ear : Ear) (len : ℕ) (s : List ℕ) (from : ℕ) (r : Advanced) → from ≤ r .at → (r .act ≡ 0 → ⊥) → advanced ear len (drop from s) from ≡ r → Leads ear len s from r
+leads-asked ear len s from r on asks e = record { on = on; same = e ∙ sym (resumed-asked r len s asks) }
+
+-- a leap behind the bits that go by
+pub leads-behind : (past len : ℕ) (s : List ℕ) (from : ℕ) (p : Passed) (r : Advanced) → Passes past s from p → Leads (full (p .past) 0) len s (p .at) r → Leads (full past 0) len s from r
+leads-behind past len s from p r passes leads = record { on = omega (arith, passes .on, leads .on); same = passes .same len ∙ leads .same }

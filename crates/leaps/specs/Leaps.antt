@@ -1,14 +1,16 @@
 -- Document 01, 'Listening': many bits, up to the first that asks for something.
-use Prim.Native.Nat.{ℕ, _+_, _/_, _≤_}
+use Prim.Native.Nat.{ℕ, zero, suc, _+_, _*_, _/_, _%_, _<_, _≤_}
 use mathlib.Core.Path.{_≡_}
-use mathlib.Core.Bool.{Bool}
+use mathlib.Core.Bool.{Bool, true, not}
 use mathlib.Core.List.{List, [], _∷_}
 use lib.Dec.{ltb, eqb}
-use lib.ListN.{drop}
-use Rattle.laws.specs.Choice.{choose, either}
+use lib.ListN.{length, drop, getD}
+use Rattle.laws.specs.Choice.{choose, both, either}
+use Rattle.laws.specs.Tests.{every}
+use Rattle.octets.specs.Octets.{bad}
 use Rattle.framing.specs.declared.Ear.{Ear}
 use Rattle.framing.specs.declared.Stepped.{Stepped}
-use Rattle.framing.specs.Framing.{nothing, hunting, refuse, stepped, stay}
+use Rattle.framing.specs.Framing.{octetOf, nothing, hunting, refuse, stepped, stay}
 use Rattle.leaps.specs.declared.Advanced.{Advanced}
 use Rattle.leaps.specs.declared.Passed.{Passed}
 
@@ -48,5 +50,33 @@ standsOut past = either (eqb (past / 4) 537395712) (eqb (past / 2097152) 1023)
 
 -- bits that go by while hunting
 pub record Passes (past : ℕ) (bits : List ℕ) (from : ℕ) (p : Passed) : Type 0 where
+  pub small : p .past < 4294967296
   pub on : from ≤ p .at
   pub same : (len : ℕ) → advanced (full past hunting) len (drop from bits) from ≡ advanced (full (p .past) hunting) len (drop (p .at) bits) (p .at)
+
+-- so many bytes from i on, and whether they are bits
+unfoldable pub span : List ℕ → ℕ → ℕ → List ℕ
+span s i zero = []
+span s i (suc n) = getD s i 0 ∷ span s (i + 1) n
+
+abbrev pub isBit : ℕ → Bool
+isBit b = ltb b 2
+
+-- the number of bits, the first lowest
+abbrev pub value : List ℕ → ℕ
+value [] = 0
+value (b ∷ bs) = b + 2 * value bs
+
+-- ten bits stand there, and make this number
+pub record TenAt (s : List ℕ) (i ten : ℕ) : Type 0 where
+  pub room : i + 10 ≤ length s
+  pub bits : every isBit (span s i 10) ≡ true
+  pub number : ten ≡ value (span s i 10)
+
+-- the past once ten bits are heard
+abbrev pub afterTen : ℕ → ℕ → ℕ
+afterTen past ten = past / 1024 + ten * 4194304
+
+-- ten bits are an octet other than 0 in its frame, and it is stored
+unfoldable pub isStored : ℕ → ℕ → ℕ → Bool
+isStored ten past len = both (eqb (ten % 2) 0) (both (ltb 512 ten) (both (ltb len 64) (not (bad (octetOf past)))))

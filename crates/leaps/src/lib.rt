@@ -3,9 +3,11 @@
 // A bit that asks for nothing only turns the ear. Most bits do, and they are passed over in loops of their own, which ask less of
 // each bit than a step of the framing does.
 use framing::Ear;
+ghost use Prim.Native.Nat.{ℕ, _<_};
 ghost use mathlib.Core.Path.{_≡_};
+ghost use mathlib.Core.Bool.{true};
 ghost use lib.ListN.{drop};
-ghost use Rattle.leaps.specs.Leaps.{advanced, reached, standsOut, Passes, Leads};
+ghost use Rattle.leaps.specs.Leaps.{advanced, full, reached, standsOut, Passes, Leads, TenAt, afterTen, isStored};
 
 // The ear behind the bits that were heard, what the last of them asks for, 0 where that is nothing, and where the next bit is.
 pub struct Advanced {
@@ -17,6 +19,12 @@ pub struct Advanced {
 struct Passed {
     past: u32,
     at: usize,
+}
+
+// Whether ten bits stand somewhere, and the number that they make, the first lowest.
+struct Ten {
+    whole: bool,
+    number: u32,
 }
 
 // What follows where thirty bits or more were heard.
@@ -65,14 +73,124 @@ fn pass_hunting(past: u32, bits: &[u8], from: usize) -> Passed
     Passed { past: p, at: i }
 }
 
+// The ten bytes from `from` on, where they are there and are bits.
+fn ten_at(bits: &[u8], from: usize) -> Ten
+    ensures { λ r. ⌜ (r .whole ≡ true → TenAt (now (bits .entry)) from (r .number)) ⌝ }
+{
+    if bits.len() < 10 {
+        return Ten {
+            whole: false,
+            number: 0,
+        };
+    }
+    if bits.len() - 10 < from {
+        return Ten {
+            whole: false,
+            number: 0,
+        };
+    }
+    let mut number: u32 = 0;
+    let mut k: usize = 10;
+    while 0 < k {
+        k -= 1;
+        let bit = bits[from + k];
+        if 1 < bit {
+            return Ten {
+                whole: false,
+                number: 0,
+            };
+        }
+        number = number * 2 + bit as u32;
+    }
+    Ten {
+        whole: true,
+        number: number,
+    }
+}
+
+// The past once ten bits of this number are heard.
+fn after_ten(past: u32, number: u32) -> u32
+    requires { ⌜ number < 1024 ⌝ }
+    ensures { λ r. ⌜ r ≡ afterTen past number ⌝ }
+{
+    past / 1024 + number * 4194304
+}
+
+// Whether ten bits of this number, which make this past, are an octet that is stored. One that is 0 is left to the framing: it may
+// end CJ.
+fn is_stored(number: u32, past: u32, len: u8) -> bool
+    ensures { λ r. ⌜ r ≡ isStored number past len ⌝ }
+{
+    if number % 2 == 0 {
+        if 512 < number {
+            if len < 64 {
+                return !octets::is_bad(framing::octet_heard(past));
+            }
+            return false;
+        }
+        return false;
+    }
+    false
+}
+
+// At an octet boundary: an octet in its frame, or the ten 1s that end a message.
+fn leap_boundary(past: u32, len: u8, bits: &[u8], from: usize) -> Advanced
+    ensures { λ r. ⌜ Leads (full past 10) len (now (bits .entry)) from r ⌝ }
+{
+    if past < 2147483648 {
+        return reach(past, 10, 0, from);
+    }
+    let ten = ten_at(bits, from);
+    if ten.whole {
+        let number = ten.number;
+        let next = after_ten(past, number);
+        if number == 1023 {
+            return reach(next, 0, 4, from + 10);
+        }
+        if is_stored(number, next, len) {
+            return reach(next, 10, 3, from + 10);
+        }
+        return reach(past, 10, 0, from);
+    }
+    reach(past, 10, 0, from)
+}
+
+fn menu_sync_at(bits: &[u8], from: usize) -> bool
+    ensures { λ r. ⌜ (r ≡ true → TenAt (now (bits .entry)) from 960) ⌝ }
+{
+    let ten = ten_at(bits, from);
+    if ten.whole {
+        return ten.number == 960;
+    }
+    false
+}
+
+// While hunting: the bits that go by, and a menu sync behind them.
+fn leap_hunting(past: u32, bits: &[u8], from: usize) -> Advanced
+    ensures { λ r. ⌜ ((len : ℕ) → Leads (full past 0) len (now (bits .entry)) from r) ⌝ }
+{
+    let p = pass_hunting(past, bits, from);
+    let before = p.past;
+    let at = p.at;
+    if before / 4194304 == 1023 {
+        if menu_sync_at(bits, at) {
+            return reach(after_ten(before, 960), 10, 2, at + 10);
+        }
+        return reach(before, 0, 0, at);
+    }
+    reach(before, 0, 0, at)
+}
+
 // Some bits at once, or none.
 fn leap(ear: Ear, len: u8, bits: &[u8], from: usize) -> Advanced
     ensures { λ r. ⌜ Leads ear len (now (bits .entry)) from r ⌝ }
 {
     if ear.heard == 30 {
         if ear.place == 0 {
-            let p = pass_hunting(ear.past, bits, from);
-            return reach(p.past, 0, 0, p.at);
+            return leap_hunting(ear.past, bits, from);
+        }
+        if ear.place == 10 {
+            return leap_boundary(ear.past, len, bits, from);
         }
         return Advanced {
             ear: ear,

@@ -22,7 +22,7 @@ shared-slice-read-bit : tie.Need-shared-slice-read-bit Inv-loop μ-loop
 shared-slice-read-bit c = search needs
 
 returns : tie.Need-returns Inv-loop μ-loop
-returns c = let l = c .before .before .before in record { on = l .loop .inv .1 .0; same = l .loop .inv .1 .1 }
+returns c = let l = c .before .before .before in record { small = l .loop .inv .0; on = l .loop .inv .1 .0; same = l .loop .inv .1 .1 }
 
 cast-next : tie.Need-cast-next Inv-loop μ-loop
 cast-next c = search needs
@@ -37,7 +37,7 @@ stands-out-requires : tie.Need-stands-out-requires Inv-loop μ-loop
 stands-out-requires c κs = search needs
 
 returns-2 : tie.Need-returns-2 Inv-loop μ-loop
-returns-2 c = let l = c .before .before .before .before .before in record { on = l .loop .inv .1 .0; same = l .loop .inv .1 .1 }
+returns-2 c = let l = c .before .before .before .before .before in record { small = l .loop .inv .0; on = l .loop .inv .1 .0; same = l .loop .inv .1 .1 }
 
 add-i : tie.Need-add-i Inv-loop μ-loop
 add-i c = search needs
@@ -52,7 +52,7 @@ loop-again c =
     (search needs, (omega (arith, l .loop .inv .1 .0), λ len. l .loop .inv .1 .1 len ∙ advanced-on (full (l .loop .p) 0) len s (l .loop .i) (l .loop .i) (search needs) _ (goes-by (l .loop .p) len (getD s (l .loop .i) 0) (search needs) (sym (c .before .stands-out .ensures) ∙ c .if2 .left)) refl))
 
 returns-3 : tie.Need-returns-3 Inv-loop μ-loop
-returns-3 c = let l = c .before in record { on = l .loop .inv .1 .0; same = l .loop .inv .1 .1 }
+returns-3 c = let l = c .before in record { small = l .loop .inv .0; on = l .loop .inv .1 .0; same = l .loop .inv .1 .1 }
 
 pub pass-hunting-spec : {M : Type 1} → statement M
 pass-hunting-spec =
