@@ -10,7 +10,7 @@ use borrow.Author.Tests.{le-ltb, eq-eqb, ne-eqb, eqb-true, eqb-false}
 use lib.Dec.{eqb}
 use lib.ListN.{length, drop, getD, drop-of-length-le}
 use lib.Seq.{drop-cons}
-use Rattle.laws.specs.Choice.{choose, both, either}
+use Rattle.laws.specs.Choice.{choose, both}
 use Rattle.laws.proofs.Chosen.{chosen, both-true, either-false}
 use Rattle.framing.specs.declared.Ear.{Ear}
 use Rattle.framing.specs.declared.Stepped.{Stepped}

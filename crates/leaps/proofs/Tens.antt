@@ -9,7 +9,7 @@ use mathlib.Core.Path.{_≡_, refl, sym, ap, ap₂, _∙_}
 use mathlib.Core.Bool.{Bool, true, false}
 use mathlib.Core.List.{List}
 use borrow.Author.Tests.{lt-ltb, le-ltb, ltb-true, eq-eqb, ne-eqb, eqb-true, not-true}
-use lib.Dec.{T, ltb, eqb, eqb→eq, lit<, lit≤}
+use lib.Dec.{ltb, eqb, eqb→eq, lit<, lit≤}
 use lib.ListN.{length, drop, getD}
 use Rattle.laws.specs.Choice.{choose, both}
 use Rattle.laws.specs.Tests.{allBelow, every}

@@ -1,7 +1,7 @@
 // Leaps: what many bits do to the ear, up to the first that asks for something.
 //
-// A bit that asks for nothing only turns the ear. Most bits do, and they are passed over in loops of their own, which ask less of
-// each bit than a step of the framing does.
+// Most bits ask for nothing, and the framing does not have to be asked about each. Of a bit that goes by while hunting two tests
+// are enough; and ten bits together, behind a 1, are known for an octet, for the end of a message or for a menu sync.
 use framing::Ear;
 ghost use Prim.Native.Nat.{ℕ, _<_};
 ghost use mathlib.Core.Path.{_≡_};

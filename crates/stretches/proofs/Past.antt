@@ -8,34 +8,27 @@ use mathlib.Core.List.{List, [], _∷_, _++_, append-assoc, append-nil}
 use borrow.Author.Tests.{ltb-true, ltb-false}
 use lib.Dec.{ltb, lit<}
 use lib.ListN.{length, take, drop, getD, take-append-drop, getD-replicate, List·getD-append}
-use lib.Seq.{drop-at, drop-append-add, getD-drop}
+use lib.Seq.{drop-append-add, getD-drop}
 use Rattle.sequences.specs.Line.{framed, framedAll, tenOnes, cj}
 use Rattle.framing.specs.Framing.{pushed, lastTen}
 use Rattle.framing.proofs.Words.{hearing}
+use Rattle.leaps.specs.Leaps.{value}
+use Rattle.leaps.proofs.Spans.{hearing-number}
 use Rattle.stretches.proofs.Each.{none, more, Bits}
 
 -- a past is a number of 32 bits
 abbrev pub Small : ℕ → Type 0
 Small p = p < 4294967296
 
--- the lowest bits of a number, lowest first, and the number of such bits
+-- the lowest bits of a number, lowest first
 unfoldable lows : ℕ → ℕ → List ℕ
 lows zero x = []
 lows (suc n) x = x % 2 ∷ lows n (x / 2)
-
-abbrev pub value : List ℕ → ℕ
-value [] = 0
-value (b ∷ bs) = b + 2 * value bs
 
 lows-length : (n x : ℕ) → length (lows n x) ≡ n
 unfolding lows
 lows-length zero x = refl
 lows-length (suc n) x = ap suc (lows-length n (x / 2))
-
-value-lows : (n x : ℕ) → x < 2 ^ n → value (lows n x) ≡ x
-unfolding lows
-value-lows zero x h = omega arith
-value-lows (suc n) x h = omega (arith, value-lows n (x / 2) (omega arith))
 
 -- one bit on top
 lows-top : (n y b : ℕ) → y < 2 ^ n → b < 2 → lows (suc n) (y + b * 2 ^ n) ≡ lows n y ++ b ∷ []
@@ -77,11 +70,10 @@ last-thirty : (p : ℕ) (q : List ℕ) → Small p → Bits q → lows 30 (heari
 last-thirty = part-heard 29 (λ (p : ℕ). p / 4) (λ p b. omega arith) (λ p h. omega arith)
 
 -- ten bits, whatever was heard before
-pub ten-heard : (p : ℕ) (w : List ℕ) → Small p → Bits w → length w ≡ 10 → lastTen (hearing p w) ≡ value w
-ten-heard p w h bits ten =
-    let small : lastTen (hearing p w) < 2 ^ 10 = omega (arith, hearing-small p w h bits) in
-    sym (value-lows 10 (lastTen (hearing p w)) small)
-    ∙ ap value (last-ten p w h bits ∙ drop-at (lows 10 (lastTen p)) w (length w) (lows-length 10 (lastTen p) ∙ sym ten))
+pub ten-heard : (p : ℕ) (w : List ℕ) → Small p → length w ≡ 10 → lastTen (hearing p w) ≡ value w
+ten-heard p w h ten =
+    let number = hearing-number w p 4194304 (ap (λ (n : ℕ). 4194304 * 2 ^ n) ten) ∙ ap (λ (n : ℕ). p / 2 ^ n + value w * 4194304) ten in
+    omega (arith, number)
 
 -- a list behind as many bits as it is long
 behind : (n x : ℕ) (q : List ℕ) → n ≤ length q → drop (length q) (lows n x ++ q) ≡ drop (length q - n) q

@@ -26,7 +26,8 @@ use Rattle.framing.proofs.Words.{hearing}
 use Rattle.stretches.specs.Hearing.{Report, message}
 use Rattle.stretches.proofs.Each.{Each, none, more, Bits, bits-by}
 use Rattle.stretches.proofs.Sound.{Sound, sound-shape}
-use Rattle.stretches.proofs.Past.{Small, value, hearing-small, hearing-append, ten-heard}
+use Rattle.leaps.specs.Leaps.{value}
+use Rattle.stretches.proofs.Past.{Small, hearing-small, hearing-append, ten-heard}
 use Rattle.stretches.proofs.Plain.{plain, after, plain-append, after-append}
 
 -- bits that bring these reports, and leave such a record
@@ -130,11 +131,11 @@ framed-bits b h = bits-by (framed b) (below (λ (n : ℕ). every (λ (bit : ℕ)
 
 -- their numbers, whatever was heard before
 ones-number : (p : ℕ) → Small p → lastTen (hearing p tenOnes) ≡ 1023
-ones-number p h = ten-heard p tenOnes h ones-bits refl
+ones-number p h = ten-heard p tenOnes h refl
 
 sync-number : (kind : Kind) (p : ℕ) → Small p → lastTen (hearing p (sync kind)) ≡ syncTen kind
-sync-number Ci p h = ten-heard p (sync Ci) h (sync-bits Ci) refl
-sync-number Menu p h = ten-heard p (sync Menu) h (sync-bits Menu) refl
+sync-number Ci p h = ten-heard p (sync Ci) h refl
+sync-number Menu p h = ten-heard p (sync Menu) h refl
 
 framed-value : (b : ℕ) → b < 256 → value (framed b) ≡ 512 + 2 * b
 unfolding framed both allBelow
@@ -142,7 +143,7 @@ framed-value b h = eqb→eq _ _ (below (λ (n : ℕ). eqb (value (framed n)) (51
 
 octet-number : (b p : ℕ) → b < 256 → Small p → octetOf (hearing p (framed b)) ≡ b
 unfolding framed
-octet-number b p small h = omega (arith, ten-heard p (framed b) h (framed-bits b small) refl ∙ framed-value b small)
+octet-number b p small h = omega (arith, ten-heard p (framed b) h refl ∙ framed-value b small)
 
 -- hunting
 pub record Idle (rec : Listener) : Type 0 where

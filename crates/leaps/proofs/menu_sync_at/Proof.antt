@@ -1,5 +1,4 @@
 use borrow.Author.Needs.{needs}
-use Prim.Native.Nat.{ℕ}
 use mathlib.Core.Path.{sym, subst}
 use borrow.Author.Tests.{eqb-true}
 use denote.Ref.{now}

@@ -1,8 +1,7 @@
 use borrow.Author.Needs.{needs}
 use native.Mathlib.Omega.{arith}
-use Prim.Native.Nat.{_<_, _≤_, _+_, _*_, _-_}
+use Prim.Native.Nat.{_<_, _≤_, _+_, _-_}
 use mathlib.Core.Path.{sym}
-use lib.ListN.{getD}
 use denote.Ref.{now}
 use Rattle.laws.proofs.Chosen.{clash}
 use Rattle.leaps.proofs.Spans.{Spanned, spanned-none, spanned-more, spanned-low, spanned-ten}
