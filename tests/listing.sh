@@ -8,45 +8,7 @@ set -uo pipefail
 
 program=${1:?the listing program}
 recordings=${2:?the folder of the recordings}
-work=$(mktemp -d)
-trap 'rm -rf "$work"' EXIT
-
-runs=0
-differ=0
-
-# in_pieces SIZE..: copies its input in pieces of these sizes, then the rest. The pauses let the program take each piece
-# by itself; without them the pipe would join them again.
-in_pieces() {
-    local size
-    for size in "$@"; do
-        dd bs="$size" count=1 status=none
-        sleep 0.002
-    done
-    cat
-}
-
-# compare NAME EXPECTED STATUS: what was printed into $work/printed, and how the program ended.
-compare() {
-    runs=$((runs + 1))
-    [ "$3" -eq 0 ] || printf '%s: ended with %s\n' "$1" "$3"
-    if ! cmp -s "$2" "$work/printed"; then
-        printf '%s: printed (+) is not what was expected (-)\n' "$1"
-        diff -u "$2" "$work/printed" | sed -n '4,12p'
-    elif [ "$3" -eq 0 ]; then
-        return
-    fi
-    differ=$((differ + 1))
-}
-
-# check NAME INPUT EXPECTED SIZE..: the input as a file, then through a pipe in pieces of these sizes.
-check() {
-    local name=$1 input=$2 expected=$3
-    shift 3
-    "$program" <"$input" >"$work/printed"
-    compare "$name" "$expected" $?
-    in_pieces "$@" <"$input" | "$program" >"$work/printed"
-    compare "$name, in pieces" "$expected" $?
-}
+. "$(dirname "$0")/programs.sh"
 
 # say NAME INPUT LINE..: an input with the escapes of printf %b, and the lines expected behind the header.
 say() {
@@ -54,13 +16,13 @@ say() {
     shift 2
     printf '%b' "$input" >"$work/input"
     { printf 'bit\twhat\toctets\n'; [ $# -eq 0 ] || printf '%b\n' "$@"; } >"$work/expected"
-    check "$name" "$work/input" "$work/expected" 1 7 13
+    check "$program" "$name" "$work/input" "$work/expected" 1 7 13
 }
 
 command -v "$program" >/dev/null || { printf '%s: no program\n' "$program"; exit 2; }
 for bits in "$recordings"/*.bits; do
     [ -f "$bits" ] || { printf '%s: no recordings\n' "$recordings"; exit 2; }
-    check "$bits" "$bits" "${bits%.bits}.listing" 1 7 2 31 1 64 10
+    check "$program" "$bits" "$bits" "${bits%.bits}.listing" 1 7 2 31 1 64 10
 done
 
 ci=111111111100000000010100000111
@@ -88,7 +50,6 @@ awk -v copies="$copies" 'BEGIN {
     print "bit\twhat\toctets"
     for (i = 0; i < copies; i++) printf "%d\tMENU\tC1 45 13 90 2A\n", 79 + 70 * i
 }' >"$work/menus.listing"
-check "$copies menus" "$work/menus" "$work/menus.listing" 1 4095 65537 7 65535 131073
+check "$program" "$copies menus" "$work/menus" "$work/menus.listing" 1 4095 65537 7 65535 131073
 
-printf '%s runs, %s differ\n' "$runs" "$differ"
-[ "$differ" -eq 0 ]
+all_alike

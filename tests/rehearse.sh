@@ -8,50 +8,14 @@ set -uo pipefail
 
 program=${1:?the rehearsing program}
 calls=${2:?the folder of the calls}
-work=$(mktemp -d)
-trap 'rm -rf "$work"' EXIT
-
-runs=0
-differ=0
-
-# in_pieces SIZE..: copies its input in pieces of these sizes, then the rest. The pauses let the program take each piece
-# by itself; without them the pipe would join them again.
-in_pieces() {
-    local size
-    for size in "$@"; do
-        dd bs="$size" count=1 status=none
-        sleep 0.002
-    done
-    cat
-}
-
-# compare NAME EXPECTED STATUS: what was printed into $work/printed, and how the program ended.
-compare() {
-    runs=$((runs + 1))
-    [ "$3" -eq 0 ] || printf '%s: ended with %s\n' "$1" "$3"
-    if ! cmp -s "$2" "$work/printed"; then
-        printf '%s: printed (+) is not what was expected (-)\n' "$1"
-        diff -u "$2" "$work/printed" | sed -n '4,12p'
-    elif [ "$3" -eq 0 ]; then
-        return
-    fi
-    differ=$((differ + 1))
-}
-
-# check NAME INPUT EXPECTED: the input as a file, then through a pipe in pieces.
-check() {
-    "$program" <"$2" >"$work/printed"
-    compare "$1" "$3" $?
-    # Where the text is too long the program ends before it took all pieces: its own end counts, not that of the pipe.
-    in_pieces 1 7 2 31 1 64 10 <"$2" | "$program" >"$work/printed"
-    compare "$1, in pieces" "$3" "${PIPESTATUS[1]}"
-}
+. "$(dirname "$0")/programs.sh"
+pieces=(1 7 2 31 1 64 10)
 
 # refuses NAME TEXT LINE: a text, with the escapes of printf %b, and the one line that it must get.
 refuses() {
     printf '%b' "$2" >"$work/input"
     printf '%s\n' "$3" >"$work/expected"
-    check "$1" "$work/input" "$work/expected"
+    check "$program" "$1" "$work/input" "$work/expected" "${pieces[@]}"
 }
 
 # survives NAME: what the text $work/input gets, whatever it is, is a timeline or one line, and no crash.
@@ -71,7 +35,7 @@ survives() {
 command -v "$program" >/dev/null || { printf '%s: no program\n' "$program"; exit 2; }
 for call in "$calls"/*.call; do
     [ -f "$call" ] || { printf '%s: no calls\n' "$calls"; exit 2; }
-    check "$call" "$call" "${call%.call}.timeline"
+    check "$program" "$call" "$call" "${call%.call}.timeline" "${pieces[@]}"
 done
 
 none='0:0000:0 0:0000:0 0:0000:0 0:0000:0 0:0000:0'
@@ -82,7 +46,7 @@ whole="$caller\n$answerer\nfunction 6\n"
 # The text of an example in other forms is the same call.
 same() {
     printf '%b' "$2" >"$work/input"
-    check "$1" "$work/input" "$calls/v32bis.timeline"
+    check "$program" "$1" "$work/input" "$calls/v32bis.timeline" "${pieces[@]}"
 }
 same 'the order of the lines is free' "function 6\n$answerer\n$caller\n"
 same 'the last line feed is missing' "$caller\n$answerer\nfunction 6"
@@ -141,15 +105,15 @@ refuses 'the first of two wrong lines' "function x\ndamaged\n" "line 1: behind '
 
 # 65,535 bytes are read, and more are not: a call with a comment that fills the text, and one byte more.
 { printf '%b#' "$whole"; head -c 70000 /dev/zero | tr '\0' x; } | head -c 65535 >"$work/longest"
-check 'a text of 65535 bytes' "$work/longest" "$calls/v32bis.timeline"
+check "$program" 'a text of 65535 bytes' "$work/longest" "$calls/v32bis.timeline" "${pieces[@]}"
 printf 'x' | cat "$work/longest" - >"$work/longer"
 printf 'the text is longer than 65535 bytes\n' >"$work/expected"
-check 'a text of 65536 bytes' "$work/longer" "$work/expected"
+check "$program" 'a text of 65536 bytes' "$work/longer" "$work/expected" "${pieces[@]}"
 cat "$work/longer" "$work/longer" >"$work/input"
-check 'a text of 131072 bytes' "$work/input" "$work/expected"
+check "$program" 'a text of 131072 bytes' "$work/input" "$work/expected" "${pieces[@]}"
 head -c 65535 /dev/zero | tr '\0' ' ' >"$work/input"
 printf "the text ends without a line 'caller'\n" >"$work/expected"
-check 'a line of 65535 blanks' "$work/input" "$work/expected"
+check "$program" 'a line of 65535 blanks' "$work/input" "$work/expected" "${pieces[@]}"
 
 for call in "$calls"/*.call; do
     size=$(wc -c <"$call")
@@ -174,5 +138,4 @@ for ((n = 1; n <= 40; n++)); do
     survives "random words, run $n"
 done
 
-printf '%s runs, %s differ\n' "$runs" "$differ"
-[ "$differ" -eq 0 ]
+all_alike
