@@ -194,7 +194,7 @@ fn every_public_function_is_listed_with_its_promise() {
 }
 
 /// A promise that nothing wrong was tried against may say too little. A wrong program counts for the public functions of its
-/// crate that lead to it; those that the host calls hand on to functions with wrong programs of their own, and have one at least.
+/// crate that lead to it.
 #[test]
 fn every_public_function_has_its_wrong_programs() {
     let mut lacking = Vec::new();
