@@ -4,6 +4,9 @@ use libc::STDIN_FILENO;
 use libc::STDOUT_FILENO;
 use listening::Heard;
 use listening::Listener;
+use printing::put_decimal;
+use printing::put_octet;
+use printing::put_text;
 ghost use Prim.Native.Nat.{_≤_};
 ghost use lib.ListN.{length};
 ghost use Rattle.listening.specs.Record.{Fits};
@@ -15,67 +18,18 @@ struct State {
     on: bool,
 }
 
-// A byte behind the first `at` ones, where there is room for it.
-fn put(out: &mut [u8], at: usize, b: u8) -> usize
-    requires { ⌜ at ≤ length (now out) ⌝ }
-    ensures { λ r. ⌜ r ≤ length (now (out .exit)) ⌝ }
-{
-    if at < out.len() {
-        out[at] = b;
-        return at + 1;
-    }
-    at
-}
-
-fn put_text(out: &mut [u8], at: usize, text: &[u8]) -> usize
-    requires { ⌜ at ≤ length (now out) ⌝ }
-    ensures { λ r. ⌜ r ≤ length (now (out .exit)) ⌝ }
-{
-    let mut n = at;
-    let mut i: usize = 0;
-    while i < text.len() {
-        n = put(out, n, text[i]);
-        i += 1;
-    }
-    n
-}
-
-fn put_decimal(out: &mut [u8], at: usize, number: u64) -> usize
-    requires { ⌜ at ≤ length (now out) ⌝ }
-    ensures { λ r. ⌜ r ≤ length (now (out .exit)) ⌝ }
-{
-    let mut digits = [0u8; 20];
-    let k = io::decimal(number, &mut digits);
-    put_text(out, at, &digits[..k])
-}
-
-// A hexadecimal digit, in upper case.
-fn hex_digit(n: u8) -> u8
-    requires { ⌜ n ≤ 15 ⌝ }
-{
-    if n < 10 { 48 + n } else { 55 + n }
-}
-
-fn put_octet(out: &mut [u8], at: usize, b: u8) -> usize
-    requires { ⌜ at ≤ length (now out) ⌝ }
-    ensures { λ r. ⌜ r ≤ length (now (out .exit)) ⌝ }
-{
-    let n = put(out, at, hex_digit(b / 16));
-    put(out, n, hex_digit(b % 16))
-}
-
 // Octets with single spaces between, or - where there are none.
 fn put_octets(out: &mut [u8], at: usize, octets: &[u8]) -> usize
     requires { ⌜ at ≤ length (now out) ⌝ }
     ensures { λ r. ⌜ r ≤ length (now (out .exit)) ⌝ }
 {
     if octets.len() == 0 {
-        return put(out, at, b'-');
+        return put_text(out, at, b"-");
     }
     let mut n = put_octet(out, at, octets[0]);
     let mut i: usize = 1;
     while i < octets.len() {
-        n = put(out, n, b' ');
+        n = put_text(out, n, b" ");
         n = put_octet(out, n, octets[i]);
         i += 1;
     }
@@ -88,11 +42,11 @@ fn put_fields(out: &mut [u8], at: usize, place: u64, what: &[u8], octets: &[u8])
     ensures { λ r. ⌜ r ≤ length (now (out .exit)) ⌝ }
 {
     let n = put_decimal(out, at, place);
-    let m = put(out, n, b'\t');
+    let m = put_text(out, n, b"\t");
     let k = put_text(out, m, what);
-    let j = put(out, k, b'\t');
+    let j = put_text(out, k, b"\t");
     let e = put_octets(out, j, octets);
-    put(out, e, b'\n')
+    put_text(out, e, b"\n")
 }
 
 fn put_refusal(out: &mut [u8], at: usize, place: u64, number: u8) -> usize

@@ -13,7 +13,6 @@
 // several. What follows a # is a comment. What is wrong with the text is told in one line, and nothing is rehearsed.
 mod ends;
 mod plans;
-mod printing;
 mod telling;
 mod words;
 

@@ -1,11 +1,31 @@
 // The lines of the timeline, and the one line that says what is wrong with a text.
-use super::printing::put_decimal;
-use super::printing::put_octets;
-use super::printing::put_text;
-use super::printing::write_line;
 use super::words::line;
 use super::words::part;
+use libc::STDOUT_FILENO;
+use printing::put_decimal;
+use printing::put_octet;
+use printing::put_text;
 use steps::Session;
+
+// Octets, each with a space before it.
+fn put_octets(out: &mut [u8], at: usize, octets: &[u8]) -> usize {
+    let mut n = at;
+    let mut i: usize = 0;
+    while i < octets.len() {
+        n = put_text(out, n, b" ");
+        n = put_octet(out, n, octets[i]);
+        i += 1;
+    }
+    n
+}
+
+// Ends the line and writes it to standard output.
+fn write_line(out: &mut [u8], at: usize) {
+    let n = put_text(out, at, b"\n");
+    if n <= out.len() {
+        io::write_all(STDOUT_FILENO, &out[..n]);
+    }
+}
 
 // The front of a line: the milliseconds in five columns, and the end.
 fn put_front(out: &mut [u8], now: u32, end: u8) -> usize {

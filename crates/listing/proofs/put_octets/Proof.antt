@@ -2,23 +2,27 @@ use borrow.Author.Needs.{needs}
 use Prim.Native.Nat.{_≤_, _-_}
 use mathlib.Core.Path.{_≡_}
 use lib.ListN.{length}
+use Rattle.printing.proofs.Pages.{text-within}
 use Rattle.listing.proofs.put_octets.Statement.{statement}
 use Rattle.listing.proofs.put_octets.Tie as tie
 
 abbrev Inv-loop : tie.InvT-loop
-Inv-loop out₀ at octets n₀ i₀ out n i = (n ≤ length out) × (length out ≡ length out₀)
+Inv-loop out₀ at octets n₀ i₀ t7 out n i = (n ≤ length out) × (length out ≡ length out₀)
 
 abbrev μ-loop : tie.MeasureT-loop
-μ-loop out₀ at octets n₀ i₀ out n i = length octets - i
+μ-loop out₀ at octets n₀ i₀ t7 out n i = length octets - i
 
-put-requires : tie.Need-put-requires Inv-loop μ-loop
-put-requires c κs = search needs
+slice-aggregate-put-text : tie.Need-slice-aggregate-put-text Inv-loop μ-loop
+slice-aggregate-put-text c = search needs
+
+put-text-requires : tie.Need-put-text-requires Inv-loop μ-loop
+put-text-requires c κs = search needs
 
 same-length : tie.Need-same-length Inv-loop μ-loop
 same-length c = search needs
 
 returns : tie.Need-returns Inv-loop μ-loop
-returns c = search needs
+returns c = text-within _ _ _ _ _ (c .before .before .put-text .ensures) (search needs)
 
 shared-slice-read-put-octet : tie.Need-shared-slice-read-put-octet Inv-loop μ-loop
 shared-slice-read-put-octet c = search needs
@@ -27,10 +31,13 @@ put-octet-requires : tie.Need-put-octet-requires Inv-loop μ-loop
 put-octet-requires c κs = search needs
 
 loop-holds : tie.Need-loop-holds Inv-loop μ-loop
-loop-holds c = search needs
+loop-holds c = (text-within _ _ _ _ _ (c .before .before .put-octet .ensures) (search needs), search needs)
 
-put-requires-2 : tie.Need-put-requires-2 Inv-loop μ-loop
-put-requires-2 c κs = search needs
+slice-aggregate-put-text-2 : tie.Need-slice-aggregate-put-text-2 Inv-loop μ-loop
+slice-aggregate-put-text-2 c = search needs
+
+put-text-requires-2 : tie.Need-put-text-requires-2 Inv-loop μ-loop
+put-text-requires-2 c κs = search needs
 
 shared-slice-read-put-octet-2 : tie.Need-shared-slice-read-put-octet-2 Inv-loop μ-loop
 shared-slice-read-put-octet-2 c = search needs
@@ -45,7 +52,10 @@ loop-less : tie.Need-loop-less Inv-loop μ-loop
 loop-less c = search needs
 
 loop-again : tie.Need-loop-again Inv-loop μ-loop
-loop-again c = search needs
+loop-again c =
+    let octet = c .before .before in
+    let space = octet .before .before .before .before .before in
+    (text-within _ _ _ _ _ (octet .put-octet2 .ensures) (text-within _ _ _ _ _ (space .put-text2 .ensures) (search needs)), search needs)
 
 same-length-2 : tie.Need-same-length-2 Inv-loop μ-loop
 same-length-2 c = search needs
@@ -59,13 +69,15 @@ put-octets-spec =
     (tie.spec
     Inv-loop
     μ-loop
-    put-requires
+    slice-aggregate-put-text
+    put-text-requires
     same-length
     returns
     shared-slice-read-put-octet
     put-octet-requires
     loop-holds
-    put-requires-2
+    slice-aggregate-put-text-2
+    put-text-requires-2
     shared-slice-read-put-octet-2
     put-octet-requires-2
     add-i

@@ -1,8 +1,8 @@
-use native.Mathlib.Omega.{arith}
-use lib.ListN.{length-set}
 use borrow.Author.Needs.{needs}
-use Rattle.listing.proofs.put.Statement.{statement}
-use Rattle.listing.proofs.put.Tie as tie
+use Rattle.laws.specs.Choice.{choose}
+use Rattle.laws.proofs.Cases.{cases}
+use Rattle.printing.proofs.put.Statement.{statement}
+use Rattle.printing.proofs.put.Tie as tie
 
 slice-write-out : tie.Need-slice-write-out
 slice-write-out c = search needs
@@ -14,10 +14,12 @@ same-length : tie.Need-same-length
 same-length c = search needs
 
 returns : tie.Need-returns
-returns c = simp length-set (omega arith)
+unfolding choose
+returns c = search cases
 
 returns-2 : tie.Need-returns-2
-returns-2 c = search needs
+unfolding choose
+returns-2 c = search cases
 
 pub put-spec : {M : Type 1} → statement M
 put-spec = tie.close (tie.spec slice-write-out add-result same-length returns returns-2)

@@ -2,20 +2,23 @@ use borrow.Author.Needs.{needs}
 use Prim.Native.Nat.{_-_}
 use mathlib.Core.Path.{_≡_}
 use lib.ListN.{length}
-use Rattle.rehearse.proofs.printing.put_octets.Statement.{statement}
-use Rattle.rehearse.proofs.printing.put_octets.Tie as tie
+use Rattle.rehearse.proofs.telling.put_octets.Statement.{statement}
+use Rattle.rehearse.proofs.telling.put_octets.Tie as tie
 
 abbrev Inv-loop : tie.InvT-loop
-Inv-loop out₀ at octets n₀ i₀ out n i = length out ≡ length out₀
+Inv-loop out₀ at octets n₀ i₀ t6 out n i = length out ≡ length out₀
 
 abbrev μ-loop : tie.MeasureT-loop
-μ-loop out₀ at octets n₀ i₀ out n i = length octets - i
+μ-loop out₀ at octets n₀ i₀ t6 out n i = length octets - i
 
 loop-holds : tie.Need-loop-holds Inv-loop μ-loop
 loop-holds c = search needs
 
-put-requires : tie.Need-put-requires Inv-loop μ-loop
-put-requires c κs = search needs
+slice-aggregate-put-text : tie.Need-slice-aggregate-put-text Inv-loop μ-loop
+slice-aggregate-put-text c = search needs
+
+put-text-requires : tie.Need-put-text-requires Inv-loop μ-loop
+put-text-requires c κs = search needs
 
 shared-slice-read-put-octet : tie.Need-shared-slice-read-put-octet Inv-loop μ-loop
 shared-slice-read-put-octet c = search needs
@@ -45,7 +48,8 @@ put-octets-spec =
     Inv-loop
     μ-loop
     loop-holds
-    put-requires
+    slice-aggregate-put-text
+    put-text-requires
     shared-slice-read-put-octet
     put-octet-requires
     add-i

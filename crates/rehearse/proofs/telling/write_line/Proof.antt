@@ -1,11 +1,14 @@
 use borrow.Author.Needs.{needs}
 use mathlib.Core.Path.{sym}
 use lib.Seq.{length-take-le}
-use Rattle.rehearse.proofs.printing.write_line.Statement.{statement}
-use Rattle.rehearse.proofs.printing.write_line.Tie as tie
+use Rattle.rehearse.proofs.telling.write_line.Statement.{statement}
+use Rattle.rehearse.proofs.telling.write_line.Tie as tie
 
-put-requires : tie.Need-put-requires
-put-requires c κs = search needs
+slice-aggregate-put-text : tie.Need-slice-aggregate-put-text
+slice-aggregate-put-text c = search needs
+
+put-text-requires : tie.Need-put-text-requires
+put-text-requires c κs = search needs
 
 slice-reshare-prefix-write-all : tie.Need-slice-reshare-prefix-write-all
 slice-reshare-prefix-write-all c = search needs
@@ -32,7 +35,8 @@ pub write-line-spec : {M : Type 1} → statement M
 write-line-spec =
     tie.close
     (tie.spec
-    put-requires
+    slice-aggregate-put-text
+    put-text-requires
     slice-reshare-prefix-write-all
     slice-aggregate-write-all
     write-all-requires
