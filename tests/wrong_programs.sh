@@ -3,6 +3,7 @@
 # LOGS/NAME. An edit there tries wrong programs in several functions at once, since each try costs a check of the whole crate; a
 # line `wrong: LABEL in PLACE` names each and the function or law that must be refused for it. Here each PLACE has to be refused
 # by itself: because a fact about it fails, and not because something that it uses was refused, nor because a name is missing.
+# A change that no such line names would go unread, so there are as many of these lines as changes.
 # Prints each that is not; exits with 1 where there is one, and with 2 where there is nothing to read.
 set -uo pipefail
 
@@ -19,8 +20,8 @@ for edit in "${edits[@]}"; do
     round=${edit##*/}
     printf '%s\t%s\t%s\n' "$crate" "$edit" "$logs/$crate/${round%.edit}/.log"
 done | awk -F '\t' '
-    # refusals(CRATE, LOG): what is refused by itself, as own[PLACE]; the answer is a complaint, or nothing.
-    function refusals(crate, log_file,    line, place, complaint, lines) {
+    # refusals(LOG): what is refused by itself, as own[PLACE]; the answer is a complaint, or nothing.
+    function refusals(log_file,    line, place, complaint, lines) {
         delete own
         while ((getline line < log_file) > 0) {
             lines++
@@ -46,10 +47,11 @@ done | awk -F '\t' '
         return lines ? complaint : "there is no log: " log_file
     }
     {
-        complaint = refusals($1, $3)
+        complaint = refusals($3)
         tries++
-        named = 0
+        named = changed = 0
         while ((getline line < $2) > 0) {
+            changed += line ~ /^old: /
             if (line !~ /^wrong: /) continue
             split(line, word, " ")
             named++
@@ -60,8 +62,8 @@ done | awk -F '\t' '
             }
         }
         close($2)
-        if (!named) {
-            printf "%s: names no wrong program\n", $2
+        if (!named || named != changed) {
+            printf "%s: names %d wrong programs and changes %d places\n", $2, named, changed
             accepted++
         }
     }

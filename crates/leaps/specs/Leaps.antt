@@ -28,6 +28,8 @@ advanced ear len (bit ∷ bits) n =
     choose (eqb (turnedBy ear len bit .act) nothing) (advanced (turnedBy ear len bit .ear) len bits (n + 1))
     (advancedTo (turnedBy ear len bit) (n + 1))
 
+-- From here on: what the ways to leap promise to each other. What a caller is promised, `advanced`, stands above.
+
 -- an ear that has heard thirty bits or more
 abbrev pub full : ℕ → ℕ → Ear
 full past place = record { past = past; heard = 30; place = place }
