@@ -3,19 +3,19 @@
 use Prim.Native.Nat.{ℕ}
 use mathlib.Core.Path.{_≡_, refl, sym, ap, _∙_}
 use mathlib.Core.List.{List}
-use Rattle.octets.specs.declared.Refusal.{Refusal}
-use Rattle.octets.specs.Refusals.{number}
+use Rattle.refusals.specs.declared.Refusal.{Refusal}
+use Rattle.refusals.specs.Refusals.{number}
 use Rattle.menus.specs.declared.Offer.{Offer}
-use Rattle.menus.specs.declared.Menu.{Menu}
-use Rattle.menus.specs.declared.Menu.the-variants.{Offers, Refused}
+use Rattle.menus.specs.declared.ReadMenu.{ReadMenu}
+use Rattle.menus.specs.declared.ReadMenu.the-variants.{Offers, Refused}
 use Rattle.menus.specs.Offer.{Read, saysRead, menuRead}
-use Rattle.octets.proofs.Numbers.{named, named-number}
+use Rattle.refusals.proofs.Numbers.{named, named-number}
 use Rattle.choices.specs.declared.Choice.{Choice}
 use Rattle.choices.specs.declared.Choice.the-variants.{Nothing, Mode, Pcm}
 use Rattle.choices.specs.declared.Choice.the-variants as choices
 use Rattle.choices.specs.Choosing.{Chosen, none, item, pcm, refusal, saysChoice, onRead}
 
-module _ (octets : List ℕ) (menu : Menu) (read : saysRead menu ≡ menuRead octets) (go : Offer → Chosen) where
+module _ (octets : List ℕ) (menu : ReadMenu) (read : saysRead menu ≡ menuRead octets) (go : Offer → Chosen) where
   pub on-refused : (r : Refusal) → menu ≡ Refused r → refusal (number r) ≡ onRead (menuRead octets) go
   on-refused r e = ap (λ (m : Read). onRead m go) (ap saysRead (sym e) ∙ read)
 

@@ -1,10 +1,9 @@
 // Choices: what both ends go on with, from the menus of both.
 use items::Item;
-use menus::Menu;
 use menus::Offer;
-use octets::Refusal;
+use menus::ReadMenu;
+use refusals::Refusal;
 ghost use mathlib.Core.Path.{_≡_};
-ghost use Prim.Native.Nat.{_<_};
 ghost use Rattle.choices.specs.Choosing.{lowest, saysChoice, pcmChoice, itemChoice, chosenFrom, choiceFor, choiceOf};
 
 // What both ends go on with.
@@ -17,10 +16,10 @@ pub enum Choice {
 
 // The lowest item from 1 to 12, 0 where there is none.
 fn lowest_item(items: u16) -> u8
-    ensures { λ r. ⌜ (r ≡ lowest items) × (r < 13) ⌝ }
+    ensures { λ r. ⌜ r ≡ lowest items ⌝ }
 {
     let mut i: u8 = 1;
-    while i < 13 {
+    while i < items::ITEMS {
         if items::in_set(items, Item(i)) {
             return i;
         }
@@ -29,50 +28,48 @@ fn lowest_item(items: u16) -> u8
     0
 }
 
-fn choose_pcm(same_function: bool, options: u8) -> Choice
+// PCM with the options that pair, where the functions are the same and an option pairs.
+fn pcm_choice(same_function: bool, options: u8) -> Choice
     ensures { λ r. ⌜ saysChoice r ≡ pcmChoice «same_function» options ⌝ }
 {
-    if same_function {
-        if 0 < options {
-            return Choice::Pcm(options);
-        }
-        return Choice::Refused(Refusal::NotOffered);
+    if same_function && 0 < options {
+        return Choice::Pcm(options);
     }
     Choice::Refused(Refusal::NotOffered)
 }
 
-fn choose_item(same_function: bool, offered: u16, item: u8) -> Choice
+// The item, where there is one, the functions are the same and CM has it.
+fn item_choice(same_function: bool, offered: u16, item: u8) -> Choice
     ensures { λ r. ⌜ saysChoice r ≡ itemChoice «same_function» offered item ⌝ }
 {
     if item == 0 {
         return Choice::Nothing;
     }
-    if same_function {
-        if items::in_set(offered, Item(item)) {
-            return Choice::Mode(Item(item));
-        }
-        return Choice::Refused(Refusal::NotOffered);
+    if same_function && items::in_set(offered, Item(item)) {
+        return Choice::Mode(Item(item));
     }
     Choice::Refused(Refusal::NotOffered)
 }
 
-fn choose_from(cm: Offer, jm: Offer) -> Choice
+// The choice from what both menus offer: PCM where it counts in JM, otherwise the lowest item of JM.
+fn choice_from(cm: Offer, jm: Offer) -> Choice
     ensures { λ r. ⌜ saysChoice r ≡ chosenFrom cm jm ⌝ }
 {
     let same_function = cm.function == jm.function;
     if 0 < jm.pcm {
-        return choose_pcm(same_function, drafts::paired_options(cm.pcm, jm.pcm));
+        return pcm_choice(same_function, menus::paired_options(cm.pcm, jm.pcm));
     }
-    choose_item(same_function, cm.items, lowest_item(jm.items))
+    item_choice(same_function, cm.items, lowest_item(jm.items))
 }
 
-fn choose_for(cm: Offer, jm: &[u8]) -> Choice
+// The choice from what CM offers, and JM.
+fn choice_for(cm: Offer, jm: &[u8]) -> Choice
     ensures { λ r. ⌜ saysChoice r ≡ choiceFor (now (jm .entry)) cm ⌝ }
 {
     let menu = menus::read(jm);
     match menu {
-        Menu::Refused(r) => Choice::Refused(r),
-        Menu::Offers(offer) => choose_from(cm, offer),
+        ReadMenu::Refused(r) => Choice::Refused(r),
+        ReadMenu::Offers(offer) => choice_from(cm, offer),
     }
 }
 
@@ -82,7 +79,7 @@ pub fn choice_of(cm: &[u8], jm: &[u8]) -> Choice
 {
     let menu = menus::read(cm);
     match menu {
-        Menu::Refused(r) => Choice::Refused(r),
-        Menu::Offers(offer) => choose_for(offer, jm),
+        ReadMenu::Refused(r) => Choice::Refused(r),
+        ReadMenu::Offers(offer) => choice_for(offer, jm),
     }
 }

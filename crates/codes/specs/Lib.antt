@@ -1,4 +1,4 @@
-pub mod Kinds
+pub mod Writing
 pub mod Hearing
 pub mod Reading
 pub mod Choosing

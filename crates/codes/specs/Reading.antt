@@ -1,7 +1,33 @@
--- A menu that was refused, as it crosses to C.
+-- Looking and reading, as the numbers that cross to C.
+use Prim.Native.Nat.{_%_, _^_}
 use mathlib.Core.Bool.{false}
+use lib.IntN.{ℤ, pos, negℤ}
 use Rattle.menus.specs.declared.Offer.{Offer}
+use Rattle.menus.specs.Groups.{Looked, place, nowhere, refusal}
+use Rattle.menus.specs.Offer.{Read, offers}
+use Rattle.menus.specs.Offer as reading
+
+-- a place, 64 for nowhere since no place is as high, or a refusal n as -n
+abbrev pub lookedCode : Looked → ℤ
+lookedCode (place n) = pos n
+lookedCode nowhere = pos 64
+lookedCode (refusal n) = negℤ (pos n)
+
+-- as far as an i32 holds it
+abbrev pub cutLooked : Looked → Looked
+cutLooked (place n) = place (n % 2 ^ 31)
+cutLooked nowhere = nowhere
+cutLooked (refusal n) = refusal n
 
 -- what stands beside a refusal
 abbrev pub noOffer : Offer
 noOffer = record { function = 0; items = 0; pcm = 0; lapm = false; access = false; «access_options» = 0 }
+
+-- 0 with what is offered, or a refusal n as -n
+abbrev pub readCode : Read → ℤ
+readCode (offers o) = pos 0
+readCode (reading.refusal n) = negℤ (pos n)
+
+abbrev pub readOffer : Read → Offer
+readOffer (offers o) = o
+readOffer (reading.refusal n) = noOffer

@@ -1,29 +1,61 @@
 // Codes: the answers of the library as the numbers that cross to C, and the numbers that C passes as what they ask for.
 use choices::Choice;
 use listening::Heard;
+use listening::Listener;
+use menus::Found;
 use menus::Offer;
 use octets::Kind;
-use octets::Refusal;
 use offers::Source;
+use refusals::Refusal;
+use refusals::Wrote;
 use steps::Answer;
 use steps::Session;
 ghost use mathlib.Core.Path.{_≡_};
+ghost use Prim.Native.Nat.{_%_, _^_};
 ghost use lib.IntN.{pos, negℤ};
-ghost use Rattle.octets.specs.Refusals.{number};
+ghost use Rattle.refusals.specs.Refusals.{number};
 ghost use Rattle.listening.specs.Hearing as hearing;
 ghost use Rattle.choices.specs.Choosing.{saysChoice};
 ghost use Rattle.steps.specs.Stepping as stepping;
-ghost use Rattle.codes.specs.Kinds.{kindOf};
-ghost use Rattle.codes.specs.Hearing.{toldCode};
-ghost use Rattle.codes.specs.Reading.{noOffer};
+ghost use Rattle.refusals.specs.Lent.{saysWrote};
+ghost use Rattle.menus.specs.Groups as groups;
+ghost use Rattle.codes.specs.Writing.{kindOf, writeCode, cutSaid};
+ghost use Rattle.codes.specs.Hearing.{toldCode, actCoded};
+ghost use Rattle.codes.specs.Reading.{lookedCode, cutLooked, noOffer};
 ghost use Rattle.codes.specs.Choosing.{choiceCode, sourceCode};
 ghost use Rattle.codes.specs.Steps.{noSession, stepCode, carriedOf};
 
+// A tag that is nowhere: no place is as high.
+const NOWHERE: i32 = 64;
+
+// No choice is as high.
+const PAST_CHOICES: i32 = 24;
+
+// What an event carries where it may carry nothing.
+const NOTHING_CARRIED: u8 = 255;
+
 // A refusal n is told as -n.
-pub fn refused(r: Refusal) -> i32
+pub fn refusal_code(r: Refusal) -> i32
     ensures { λ n. ⌜ n ≡ negℤ (pos (number r)) ⌝ }
 {
-    0 - octets::refusal_number(r) as i32
+    0 - refusals::refusal_number(r) as i32
+}
+
+// How many there are, as far as an i32 holds that; what is counted here is shown to be less.
+fn count_code(n: usize) -> i32
+    ensures { λ r. ⌜ r ≡ pos (n % 2 ^ 31) ⌝ }
+{
+    (n % 2147483648) as i32
+}
+
+// How many were written, or why nothing was.
+pub fn wrote_code(w: Wrote) -> i32
+    ensures { λ n. ⌜ n ≡ writeCode (cutSaid (saysWrote w)) ⌝ }
+{
+    match w {
+        Wrote::Count(n) => count_code(n),
+        Wrote::Refused(r) => refusal_code(r),
+    }
 }
 
 // A kind as a number asks for it.
@@ -47,14 +79,44 @@ pub fn kind_of(kind: u8) -> Asked
 
 // What was heard.
 pub fn heard_code(h: Heard) -> i32
-    ensures { λ n. ⌜ n ≡ toldCode (hearing.says h) ⌝ }
+    ensures { λ n. ⌜ n ≡ toldCode (hearing.saysHeard h) ⌝ }
 {
     match h {
         Heard::Nothing => 0,
         Heard::Ci => 1,
         Heard::Menu(agreed) => { if agreed { 3 } else { 2 } }
         Heard::Cj => 4,
-        Heard::Refused(r) => refused(r),
+        Heard::Refused(r) => refusal_code(r),
+    }
+}
+
+// The second part of a bit: the record behind it, and its report as a number.
+pub struct Acted {
+    pub rec: Listener,
+    pub code: i32,
+}
+
+pub fn act_code(rec: Listener, act: u32) -> Acted
+    ensures { λ r. ⌜ r ≡ actCoded rec act ⌝ }
+{
+    let ear = rec.ear;
+    let msg = rec.msg;
+    let last = rec.last;
+    let report = listening::tell(act, msg, last);
+    Acted {
+        rec: listening::listener_of(ear, listening::act_on(msg, last, act, ear.past)),
+        code: heard_code(report),
+    }
+}
+
+// Where a tag stands: its place, 64 where it is nowhere.
+pub fn found_code(f: Found) -> i32
+    ensures { λ n. ⌜ n ≡ lookedCode (cutLooked (groups.saysFound f)) ⌝ }
+{
+    match f {
+        Found::At(place) => count_code(place),
+        Found::Nothing => NOWHERE,
+        Found::Refused(r) => refusal_code(r),
     }
 }
 
@@ -91,7 +153,7 @@ pub fn choice_code(choice: Choice) -> i32
         Choice::Nothing => 0,
         Choice::Mode(item) => item.0 as i32,
         Choice::Pcm(options) => (16 + options as u16) as i32,
-        Choice::Refused(r) => refused(r),
+        Choice::Refused(r) => refusal_code(r),
     }
 }
 
@@ -111,14 +173,14 @@ pub fn no_session() -> Session
 
 // The answer to a step: a state is below 16, the ways to end are above, choices to go on with from 32 on.
 pub fn step_code(answer: Answer) -> i32
-    ensures { λ n. ⌜ n ≡ stepCode (stepping.says answer) ⌝ }
+    ensures { λ n. ⌜ n ≡ stepCode (stepping.saysAnswer answer) ⌝ }
 {
     match answer {
         Answer::Same => 0,
         Answer::Entered(state) => state as i32,
         Answer::Ended(how) => (16 + how as u16) as i32,
         Answer::GoOn(choice) => (32 + choice as u16) as i32,
-        Answer::Refused(r) => refused(r),
+        Answer::Refused(r) => refusal_code(r),
     }
 }
 
@@ -130,10 +192,10 @@ pub fn carried(value: i32) -> u8
         return steps::REFUSED_WITH_11;
     }
     if value < 0 {
-        return 255;
+        return NOTHING_CARRIED;
     }
-    if value < 24 {
+    if value < PAST_CHOICES {
         return value as u8;
     }
-    255
+    NOTHING_CARRIED
 }

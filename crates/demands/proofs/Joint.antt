@@ -1,4 +1,5 @@
--- The JM that is made holds exactly what is shared, and what is made reads back as it was meant.
+-- The JM that is made holds exactly what is shared, and what is made reads back as it was meant. What is read back is the draft, and the
+-- draft's set of items and its PCM options hold a bit exactly where both ends do; item 0 is apart from the others.
 -- Assumes nothing.
 use Prim.Native.Nat.{ℕ, _<_, _*_}
 use native.Mathlib.Nat.{one-mul}
@@ -7,11 +8,12 @@ use mathlib.Core.Path.{_≡_, refl, sym, ap, ap₂, _∙_}
 use mathlib.Core.Bool.{Bool, true, false}
 use mathlib.Core.List.{List}
 use lib.Dec.{ltb, lit<}
-use Rattle.laws.specs.Choice.{choose, both}
+use Rattle.laws.specs.Logic.{when, both}
 use Rattle.menus.specs.declared.Offer.{Offer}
 use Rattle.items.specs.Items.{inSet, hasItem}
 use Rattle.menus.specs.Groups.{groupOf}
-use Rattle.menus.specs.Offer.{modulation, offerOf, offers}
+use Rattle.items.specs.Items.{modulation}
+use Rattle.menus.specs.Offer.{offerOf, offers}
 use Rattle.items.proofs.Bits.{in-both, same-half}
 use Rattle.items.proofs.Sets.{set-has, none-in}
 use Rattle.menus.proofs.Reading.{menu-read}
@@ -19,28 +21,29 @@ use Rattle.records.specs.declared.Modes.{Modes}
 use Rattle.records.specs.declared.Record.{Record}
 use Rattle.records.specs.Record.{flag, noModes, inUse}
 use Rattle.records.proofs.Good.{none-used}
-use Rattle.drafts.specs.Drafts.{bit, withItem0, cmOffer, analogue, digital, v91, paired, withItem1, sharedItems, jmPcm, jmOffer}
+use Rattle.offers.specs.Offering.{bit, withItem0, cmOffer, withItem1, sharedItems, jmPcm, jmOffer}
+use Rattle.menus.specs.Pcm.{analogue, digital, v91, paired}
 use Rattle.offers.proofs.Making.{bit-small}
 use Rattle.offers.proofs.Meaning.{menu-readable, menu-writable, read-back}
 use Rattle.offers.proofs.Saying.{cm-sayable, jm-sayable}
-use Rattle.demands.specs.Joint.{Accepted, cmOf, jmOf, has, hasFor, pcmFor, Joint, RoundTrip}
+use Rattle.demands.specs.Joint.{AcceptedRecord, cmOf, jmOf, has, hasFor, pcmFor, HoldsWhatBothHave, IsReadBack}
 use Rattle.demands.proofs.Shared.{crosswise}
 
 -- what was meant is read
-pub cm-back : (own : Record) → Accepted own → (function : ℕ) → inUse own function .available ≡ 1 → offerOf (cmOf own function) ≡ cmOffer own function
+pub cm-back : (own : Record) → AcceptedRecord own → (function : ℕ) → inUse own function .available ≡ 1 → offerOf (cmOf own function) ≡ cmOffer own function
 cm-back own good function there = read-back (cmOffer own function) (cm-sayable own (good .six) (good .good) function there)
 
-pub jm-back : (own : Record) → Accepted own → (heard : List ℕ) → offerOf (jmOf own heard) ≡ jmOffer own (offerOf heard)
+pub jm-back : (own : Record) → AcceptedRecord own → (heard : List ℕ) → offerOf (jmOf own heard) ≡ jmOffer own (offerOf heard)
 jm-back own good heard = read-back (jmOffer own (offerOf heard)) (jm-sayable own (good .six) (good .good) (offerOf heard) (omega arith))
 
-pub cm-round-trip : (own : Record) → Accepted own → (function : ℕ) → inUse own function .available ≡ 1 → RoundTrip (cmOf own function) (cmOffer own function)
-cm-round-trip own good function there = record {
+pub cm-is-read-back : (own : Record) → AcceptedRecord own → (function : ℕ) → inUse own function .available ≡ 1 → IsReadBack (cmOf own function) (cmOffer own function)
+cm-is-read-back own good function there = record {
   written = menu-writable (cmOffer own function);
   read = menu-read (cmOf own function) (menu-readable (cmOffer own function)) ∙ ap offers (cm-back own good function there);
 }
 
-pub jm-round-trip : (own : Record) → Accepted own → (heard : List ℕ) → RoundTrip (jmOf own heard) (jmOffer own (offerOf heard))
-jm-round-trip own good heard = record {
+pub jm-is-read-back : (own : Record) → AcceptedRecord own → (heard : List ℕ) → IsReadBack (jmOf own heard) (jmOffer own (offerOf heard))
+jm-is-read-back own good heard = record {
   written = menu-writable (jmOffer own (offerOf heard));
   read = menu-read (jmOf own heard) (menu-readable (jmOffer own (offerOf heard))) ∙ ap offers (jm-back own good heard);
 }
@@ -67,11 +70,11 @@ crossed : (t : Bool) (theirs ours : ℕ) →
     (analogue (withItem1 t (paired theirs ours)) ≡ bit t * (analogue ours * digital theirs))
     × (digital (withItem1 t (paired theirs ours)) ≡ bit t * (digital ours * analogue theirs))
     × (v91 (withItem1 t (paired theirs ours)) ≡ v91 ours * v91 theirs)
-unfolding choose
+unfolding when
 crossed true theirs ours = let bits = crosswise theirs ours in (bits .0 ∙ sym (one-mul _), bits .1 ∙ sym (one-mul _), bits .2)
 crossed false theirs ours = let bits = crosswise theirs ours in (omega arith, omega arith, omega (arith, bits .2))
 
-module _ (own : Record) (good : Accepted own) (heard : List ℕ) where
+module _ (own : Record) (good : AcceptedRecord own) (heard : List ℕ) where
   abbrev modes : Modes
   modes = inUse own (offerOf heard .function)
 
@@ -86,8 +89,8 @@ module _ (own : Record) (good : Accepted own) (heard : List ℕ) where
       ap (λ (o : Offer). o .pcm) (jm-back own good heard)
       ∙ ap (λ (t : Bool). withItem1 t (paired (offerOf heard .pcm) (modes .pcm))) (sym (item-shared 1 (lit< tt) (lit< tt)))
 
-  pub joint : Joint own heard
-  joint =
+  pub jm-holds-what-both-have : HoldsWhatBothHave own heard
+  jm-holds-what-both-have =
       let bits = crossed (has (jmOf own heard) 1) (offerOf heard .pcm) (pcmFor own (offerOf heard .function)) in
       record {
         items = λ i low high.

@@ -1,4 +1,5 @@
--- Whatever two menus offer, the choice from them is shared: never item 0, never PCM like with like.
+-- Whatever two menus offer, the choice from them is shared: never item 0, never PCM like with like. By the tests of the choice: what they
+-- let pass is an item that both sets have, looked for from 1 on, or options that pair bit by bit.
 -- Assumes nothing.
 use Prim.Native.Nat.{ℕ, zero, suc, _<_, _+_, _*_}
 use native.Mathlib.Omega.{arith}
@@ -6,12 +7,12 @@ use mathlib.Core.Path.{_≡_, refl}
 use mathlib.Core.Bool.{Bool, true}
 use borrow.Author.Tests.{ltb-true, eqb-true, eqb-false}
 use lib.Dec.{eqb}
-use Rattle.laws.proofs.Chosen.{chosen, both-true}
+use Rattle.laws.proofs.Logic.{either-way, both-true}
 use Rattle.menus.specs.declared.Offer.{Offer}
 use Rattle.items.specs.Items.{inSet}
-use Rattle.drafts.specs.Drafts.{analogue, digital, v91, paired}
+use Rattle.menus.specs.Pcm.{analogue, digital, v91, paired}
 use Rattle.choices.specs.Choosing.{lowest, lowestFrom, pcmChoice, itemChoice, chosenFrom}
-use Rattle.offers.proofs.Making.{both-small}
+use Rattle.menus.proofs.Pcm.{both-small}
 use Rattle.demands.specs.Shared.{Shared}
 
 -- the lowest item, where there is one, is in the set and below the end of what was looked at
@@ -19,7 +20,7 @@ pub lowest-in : (items i n : ℕ) → 0 < lowestFrom items i n → (inSet items 
 unfolding lowestFrom
 lowest-in items i zero = λ h. absurd (omega (arith, h))
 lowest-in items i (suc n) =
-    chosen (λ (r : ℕ). 0 < r → (inSet items r ≡ true) × (r < i + suc n)) (inSet items i) i (lowestFrom items (i + 1) n)
+    either-way (λ (r : ℕ). 0 < r → (inSet items r ≡ true) × (r < i + suc n)) (inSet items i) i (lowestFrom items (i + 1) n)
     (λ t h. (t, omega arith))
     (λ t h. let rest = lowest-in items (i + 1) n h in (rest .0, omega (arith, rest .1)))
 
@@ -43,7 +44,7 @@ module _ (cm jm : Offer) where
   pcm-shared : Shared cm jm (pcmChoice same (paired (cm .pcm) (jm .pcm)))
   unfolding pcmChoice
   pcm-shared =
-      chosen (Shared cm jm) _ _ _
+      either-way (Shared cm jm) _ _ _
       (λ t.
       let tests = both-true _ _ t in
       let bits = crosswise (cm .pcm) (jm .pcm) in
@@ -53,17 +54,17 @@ module _ (cm jm : Offer) where
   item-shared : Shared cm jm (itemChoice same (cm .items) (lowest (jm .items)))
   unfolding itemChoice
   item-shared =
-      chosen (Shared cm jm) _ _ _
+      either-way (Shared cm jm) _ _ _
       (λ _. tt)
       (λ some.
       let above : 0 < lowest (jm .items) = omega (arith, eqb-false (lowest (jm .items)) 0 some) in
       let answered = lowest-in (jm .items) 1 12 above in
-      chosen (Shared cm jm) _ _ _
+      either-way (Shared cm jm) _ _ _
       (λ t.
       let tests = both-true _ _ t in
       record { function = eqb-true _ _ (tests .0); low = above; high = answered .1; asked = tests .1; answered = answered .0 })
       (λ _. refl))
 
-  pub choice-shared : Shared cm jm (chosenFrom cm jm)
+  pub choice-is-shared : Shared cm jm (chosenFrom cm jm)
   unfolding chosenFrom
-  choice-shared = chosen (Shared cm jm) _ _ _ (λ _. pcm-shared) (λ _. item-shared)
+  choice-is-shared = either-way (Shared cm jm) _ _ _ (λ _. pcm-shared) (λ _. item-shared)

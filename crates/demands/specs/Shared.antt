@@ -2,11 +2,11 @@
 use Prim.Native.Nat.{ℕ, _<_, _*_}
 use mathlib.Core.Path.{_≡_}
 use mathlib.Core.Bool.{true}
-use Rattle.octets.specs.declared.Refusal.the-variants.{NotOffered}
-use Rattle.octets.specs.Refusals.{number}
+use Rattle.refusals.specs.declared.Refusal.the-variants.{NotOffered}
+use Rattle.refusals.specs.Refusals.{number}
 use Rattle.menus.specs.declared.Offer.{Offer}
 use Rattle.items.specs.Items.{inSet}
-use Rattle.drafts.specs.Drafts.{analogue, digital, v91}
+use Rattle.menus.specs.Pcm.{analogue, digital, v91}
 use Rattle.choices.specs.Choosing.{Chosen, none, item, pcm, refusal}
 
 -- never "Item 0 chosen as the best mode": an item from 1 to 12 that both menus have for the same function

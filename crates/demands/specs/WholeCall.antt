@@ -1,26 +1,25 @@
--- The whole call: over a line that delivers menus as sent, with the events in the order that V.8 gives them, both ends go on with the same
--- choice or both clear, and they clear exactly when nothing is shared.
-use Prim.Native.Nat.{ℕ, _+_}
+-- The whole call: over a line that delivers menus as sent, with the events in the order that V.8 gives them, both ends go on with the choice
+-- that they name or both clear, and they clear exactly when nothing is shared.
+use Prim.Native.Nat.{ℕ}
 use mathlib.Core.Path.{_≡_}
 use mathlib.Core.Bool.{Bool, true}
 use mathlib.Core.List.{List, [], _∷_}
 use lib.Dec.{leb, ltb, eqb}
-use Rattle.laws.specs.Choice.{choose, both}
+use Rattle.laws.specs.Logic.{when, both}
 use Rattle.records.specs.declared.Record.{Record}
-use Rattle.choices.specs.Choosing.{Chosen, none, item, pcm, refusal}
+use Rattle.choices.specs.Choosing.{Chosen}
 use Rattle.steps.specs.declared.Session.{Session}
 use Rattle.steps.specs.Table.{over, cleared, goesOn, ansam, agreedJm, cjSent, agreedCm, cj, tick}
 use Rattle.steps.specs.Session.{isMode, callerFrom, answererFrom}
-use Rattle.steps.specs.Stepping.{same, elapsed, refusedWith11}
+use Rattle.steps.specs.Stepping.{same, elapsed}
 use Rattle.steps.specs.Runs.{Timed, next, run}
-use Rattle.demands.specs.Joint.{NothingShared}
+use Rattle.codes.specs.Choosing.{choiceCode}
+use Rattle.codes.specs.Steps.{carriedOf}
+use Rattle.demands.specs.OneChoice.{NothingShared}
 
--- the number with which an agreed menu carries a choice
+-- "Agreed CM and agreed JM carry the choice": as a host does that hands the number of the choice to the step
 abbrev pub carried : Chosen → ℕ
-carried none = 0
-carried (item i) = i
-carried (pcm options) = 16 + options
-carried (refusal n) = refusedWith11
+carried chosen = carriedOf (choiceCode chosen)
 
 -- an event that the order waits for, what it carries, and the milliseconds in its state before which it does not count
 pub record Due : Type 0 where
@@ -31,7 +30,7 @@ pub record Due : Type 0 where
 abbrev due : ℕ → ℕ → ℕ → Due
 due event value least = record { event = event; value = value; least = least }
 
--- not sooner than that, and within half the clock
+-- not sooner than that, and within half the clock: "2^31 or more is refusal 8"
 abbrev pub inTime : Session → Due → ℕ → Bool
 inTime s d now = both (leb (d .least) (elapsed now (s .entry))) (ltb (elapsed now (s .entry)) 2147483648)
 
@@ -43,15 +42,15 @@ pub data InOrder : Session → List Due → List Timed → Type 0 where
   comes : {s : Session} {d : Due} {ds : List Due} {t : Timed} {ts : List Timed} → t .event ≡ d .event → t .value ≡ d .value → inTime s d (t .now) ≡ true
       → InOrder (next s t .session) ds ts → InOrder s (d ∷ ds) (t ∷ ts)
 
--- a session that is cleared is over at CJ; one with a choice pauses and goes on
+-- a session that is cleared is over at CJ; one with a choice pauses: "elapsed 75: over, go on as chosen or left"
 abbrev pub lastTick : ℕ → List Due
-lastTick choice = choose (eqb choice 0) [] (due tick 0 75 ∷ [])
+lastTick choice = when (eqb choice 0) [] (due tick 0 75 ∷ [])
 
--- the caller waits, hears ANSam, is quiet for Te, sends CM until JM is agreed, sends CJ
+-- the caller: "elapsed 1,000: calling", "ANSam: quiet", "elapsed Te: menu (sends CM)", "agreed JM: closing (sends CJ)", "CJ sent: pause"
 abbrev pub callerOrder : ℕ → ℕ → List Due
 callerOrder te choice = due tick 0 1000 ∷ due ansam 0 0 ∷ due tick 0 te ∷ due agreedJm choice 0 ∷ due cjSent 0 0 ∷ lastTick choice
 
--- the answerer waits, sends ANSam until CM is agreed, sends JM until CJ is heard
+-- the answerer: "elapsed 200: answering (sends ANSam)", "agreed CM: joint (sends JM)", "CJ: pause"
 abbrev pub answererOrder : ℕ → List Due
 answererOrder choice = due tick 0 200 ∷ due agreedCm choice 0 ∷ due cj 0 0 ∷ lastTick choice
 
@@ -59,11 +58,10 @@ answererOrder choice = due tick 0 200 ∷ due agreedCm choice 0 ∷ due cj 0 0 �
 pub record EndsWith (choice : ℕ) (s : Session) : Type 0 where
   pub state : s .state ≡ over
   pub chosen : s .chosen ≡ choice
-  pub ended : s .ended ≡ choose (eqb choice 0) cleared goesOn
+  pub ended : s .ended ≡ when (eqb choice 0) cleared goesOn
 
--- both ends, each with its start and its events
-pub record Ends (caller answerer : Record) (function callerStart te answererStart : ℕ) (callerEvents answererEvents : List Timed) : Type 0 where
-  pub choice : ℕ
+-- both ends, each with its start and its events; "they clear exactly when no mode and no PCM pairing is shared"
+pub record BothEndWith (choice : ℕ) (caller answerer : Record) (function callerStart te answererStart : ℕ) (callerEvents answererEvents : List Timed) : Type 0 where
   pub calling : EndsWith choice (run (callerFrom callerStart te) callerEvents)
   pub answering : EndsWith choice (run (answererFrom answererStart) answererEvents)
   pub mode : (NothingShared caller answerer function → ⊥) → isMode choice ≡ true

@@ -1,21 +1,17 @@
 -- Document 01, 'Worked values': the lines marked P, as one table.
 use Prim.Native.Nat.{ℕ, _+_, _^_}
-use mathlib.Core.Bool.{Bool, false}
+use mathlib.Core.Path.{_≡_}
 use mathlib.Core.List.{List, [], _∷_}
-use lib.Dec.{eqb}
 use lib.ListN.{length, replicate}
-use Rattle.laws.specs.Choice.{both}
-use Rattle.laws.specs.Tests.{sameList}
 use Rattle.octets.specs.declared.Kind.{Kind}
 use Rattle.octets.specs.declared.Kind.the-variants.{Ci, Menu}
 use Rattle.sequences.specs.Line.{sequence}
-use Rattle.octets.specs.Lent.{Said, count, refusal, Outcome}
+use Rattle.refusals.specs.Lent.{Said, count, refusal, WriteOutcome}
 use Rattle.sequences.specs.Writing.{written}
 use Rattle.records.specs.declared.Record.{Record}
 use Rattle.records.specs.Record.{noModes}
 use Rattle.offers.specs.Making.{madeCm, madeJm}
 use Rattle.choices.specs.Choosing.{Chosen, none, item, pcm, choiceOf}
-use Rattle.choices.specs.Choosing as choosing
 use Rattle.steps.specs.declared.Session.{Session}
 use Rattle.steps.specs.Table.{quiet, menu, going, tick}
 use Rattle.steps.specs.Session.{caller}
@@ -38,32 +34,25 @@ pub data Case : Type 0 where
   -- a session, the time of a tick, and the state behind it
   ticks : Session → ℕ → ℕ → Case
 
-abbrev sameSaid : Said → Said → Bool
-sameSaid (count m) (count n) = eqb m n
-sameSaid (count m) (refusal n) = false
-sameSaid (refusal m) (count n) = false
-sameSaid (refusal m) (refusal n) = eqb m n
-
--- a choice as one number
-abbrev chosenNumber : Chosen → ℕ
-chosenNumber none = 0
-chosenNumber (item i) = i
-chosenNumber (pcm options) = 16 + options
-chosenNumber (choosing.refusal n) = 32 + n
-
 -- the menu stands in a buffer that has room for just that
-abbrev makes : Outcome → List ℕ → Bool
-makes laid menu = both (sameSaid (laid .answer) (count (length menu))) (sameList (laid .buffer) menu)
+abbrev made : List ℕ → WriteOutcome
+made menu = record { answer = count (length menu); buffer = menu }
 
 -- the definitions give what the line says
-abbrev pub holds : Case → Bool
-holds (stands kind octets line) = sameList (sequence kind octets) line
-holds (asks own function menu) = makes (madeCm own function (replicate (length menu) 0)) menu
-holds (answers own heard menu) = makes (madeJm own heard (replicate (length menu) 0)) menu
-holds (chooses cm jm chosen) = eqb (chosenNumber (choiceOf cm jm)) (chosenNumber chosen)
-holds (lasts entry now passed) = eqb (elapsed now entry) passed
-holds (ticks session now state) = eqb (stepped session tick 0 now .session .state) state
-holds (writes kind octets n room said) = sameSaid (written kind octets n (replicate room 0) .answer) said
+abbrev pub Holds : Case → Type 0
+Holds (stands kind octets line) = sequence kind octets ≡ line
+Holds (writes kind octets n room said) = written kind octets n (replicate room 0) .answer ≡ said
+Holds (asks own function menu) = madeCm own function (replicate (length menu) 0) ≡ made menu
+Holds (answers own heard menu) = madeJm own heard (replicate (length menu) 0) ≡ made menu
+Holds (chooses cm jm chosen) = choiceOf cm jm ≡ chosen
+Holds (lasts entry now passed) = elapsed now entry ≡ passed
+Holds (ticks session now state) = stepped session tick 0 now .session .state ≡ state
+
+-- every line of a table
+infixr 5 _and_
+pub data AllHold : List Case → Type 0 where
+  done : AllHold []
+  _and_ : {line : Case} {rest : List Case} → Holds line → AllHold rest → AllHold (line ∷ rest)
 
 -- a set of items
 abbrev set : List ℕ → ℕ

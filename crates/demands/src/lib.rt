@@ -1,1 +1,1 @@
-// Theorems over the definitions that the code is proved to equal; no code.
+// Theorems over the definitions that the code is proved to equal: what the customer asked; no code.

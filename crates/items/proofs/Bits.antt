@@ -6,7 +6,7 @@ use native.Mathlib.Omega.{arith}
 use mathlib.Core.Path.{_≡_, refl, sym, ap, _∙_}
 use lib.Bits.{bitAnd, and-step, block-half, block-odd}
 use lib.Dec.{eqb}
-use Rattle.laws.specs.Choice.{both}
+use Rattle.laws.specs.Logic.{both}
 use Rattle.items.specs.Items.{bitOf, inSet}
 
 -- the first bit, and a later one in half the number

@@ -1,4 +1,5 @@
--- Laws about the places of items: the table that the code holds gives them, and what callers need of them.
+-- Laws about the places of items: the table that the code holds gives them, entry by entry; the octets that say a set, and the set that is read
+-- back from them, computed octet by octet.
 -- Assumes nothing.
 use Prim.Native.Nat.{ℕ, _<_, _≤_, _+_, _*_, _%_, _/_}
 use mathlib.Core.Path.{_≡_, sym, ap, _∙_}
@@ -9,11 +10,11 @@ use native.Mathlib.Nat.{div-div-eq-div-mul}
 use native.Mathlib.Omega.{arith}
 use lib.Dec.{T, ltb, ltb→lt, eqb, eqb→eq}
 use lib.ListN.{length, getD, List·getD-eq-default}
-use Rattle.laws.specs.Choice.{choose, both}
+use Rattle.laws.specs.Logic.{when, both}
 use Rattle.laws.specs.Tests.{allBelow}
 use Rattle.laws.proofs.Computed.{below, both-left, both-right}
 use Rattle.items.specs.declared.ItemPlace.{ItemPlace}
-use Rattle.items.specs.Items.{places, placeOf, bitOf, hasItem, setOf, itemsOf, itemBits, modulationOctet}
+use Rattle.items.specs.Items.{places, placeOf, bitOf, hasItem, setOf, itemsOf, itemBits, modulation, noItems, modulationOctet}
 
 -- the table of the code: 8 for each octet before it, and the bit
 abbrev pub table : List ℕ
@@ -76,21 +77,21 @@ five-bits n =
 
 -- the octets of a set of items
 module _ (items : ℕ) where
-  pub octet-0 : modulationOctet items 0 ≡ 5 + 32 * (items % 8)
-  unfolding places placeOf itemBits modulationOctet choose
+  pub octet-0 : modulationOctet items 0 ≡ modulation + 32 * (items % 8)
+  unfolding places placeOf itemBits modulationOctet when
   octet-0 = omega (arith, three-bits items)
 
-  pub octet-1 : modulationOctet items 1 ≡ 16 + items / 8 % 8 + 64 * (items / 8 / 8 % 4)
-  unfolding places placeOf itemBits modulationOctet choose
+  pub octet-1 : modulationOctet items 1 ≡ noItems + items / 8 % 8 + 64 * (items / 8 / 8 % 4)
+  unfolding places placeOf itemBits modulationOctet when
   octet-1 = simp (sym (div-div-eq-div-mul items 8 2), sym (div-div-eq-div-mul items 8 4), sym (div-div-eq-div-mul items 8 8), sym (div-div-eq-div-mul items 8 16)) (omega (arith, five-bits (items / 8)))
 
-  pub octet-2 : modulationOctet items 2 ≡ 16 + items / 256 % 8 + 64 * (items / 256 / 8 % 4)
-  unfolding places placeOf itemBits modulationOctet choose
+  pub octet-2 : modulationOctet items 2 ≡ noItems + items / 256 % 8 + 64 * (items / 256 / 8 % 4)
+  unfolding places placeOf itemBits modulationOctet when
   octet-2 = simp (sym (div-div-eq-div-mul items 256 2), sym (div-div-eq-div-mul items 256 4), sym (div-div-eq-div-mul items 256 8), sym (div-div-eq-div-mul items 256 16)) (omega (arith, five-bits (items / 256)))
 
 -- the items of a set are read from its octets, octet by octet: three in the first, and five in each other, by the lowest item's weight
 abbrev said : ℕ → ℕ → ℕ → ℕ
-said bit weight b = choose (eqb (bitOf bit b) 1) weight 0
+said bit weight b = when (eqb (bitOf bit b) 1) weight 0
 
 abbrev threeIn : ℕ → ℕ
 threeIn b = said 5 1 b + said 6 2 b + said 7 4 b
@@ -103,19 +104,19 @@ unfolding places placeOf hasItem setOf
 octet-by-octet a b c = omega arith
 
 abbrev fiveBits : ℕ → ℕ
-fiveBits n = 16 + n % 8 + 64 * (n / 8)
+fiveBits n = noItems + n % 8 + 64 * (n / 8)
 
-three-back : (n : ℕ) → n < 8 → threeIn (5 + 32 * n) ≡ n
-unfolding allBelow both choose
-three-back n h = eqb→eq (threeIn (5 + 32 * n)) n (below (λ (k : ℕ). eqb (threeIn (5 + 32 * k)) k) 8 tt n h)
+three-back : (n : ℕ) → n < 8 → threeIn (modulation + 32 * n) ≡ n
+unfolding allBelow both when
+three-back n h = eqb→eq (threeIn (modulation + 32 * n)) n (below (λ (k : ℕ). eqb (threeIn (modulation + 32 * k)) k) 8 tt n h)
 
 module _ (n : ℕ) (h : n < 32) where
   five-back : fiveIn 8 (fiveBits n) ≡ 8 * n
-  unfolding allBelow both choose
+  unfolding allBelow both when
   five-back = eqb→eq (fiveIn 8 (fiveBits n)) (8 * n) (below (λ (k : ℕ). eqb (fiveIn 8 (fiveBits k)) (8 * k)) 32 tt n h)
 
   last-back : fiveIn 256 (fiveBits n) ≡ 256 * n
-  unfolding allBelow both choose
+  unfolding allBelow both when
   last-back = eqb→eq (fiveIn 256 (fiveBits n)) (256 * n) (below (λ (k : ℕ). eqb (fiveIn 256 (fiveBits k)) (256 * k)) 32 tt n h)
 
 pub items-back : (items : ℕ) → items < 8192 → itemsOf (modulationOctet items 0 ∷ modulationOctet items 1 ∷ modulationOctet items 2 ∷ []) ≡ items
@@ -123,7 +124,7 @@ items-back items h =
     let low = items % 8 in
     let mid = items / 8 % 32 in
     let high = items / 256 in
-    let first : modulationOctet items 0 ≡ 5 + 32 * low = octet-0 items in
+    let first : modulationOctet items 0 ≡ modulation + 32 * low = octet-0 items in
     let second : modulationOctet items 1 ≡ fiveBits mid = octet-1 items ∙ omega arith in
     let third : modulationOctet items 2 ≡ fiveBits high = octet-2 items ∙ omega arith in
     octet-by-octet (modulationOctet items 0) (modulationOctet items 1) (modulationOctet items 2)

@@ -1,4 +1,4 @@
--- Laws about sets of items as numbers.
+-- Laws about sets of items as numbers: one more item adds its weight, and an item is in the set where it was put there.
 -- Assumes nothing.
 use Prim.Native.Nat.{ℕ, zero, suc, _<_, _≤_, _+_, _*_, _/_, _^_}
 use native.Mathlib.Nat.{zero-div, div-eq-of-lt, lt-of-lt-of-le, not-suc-le-zero, le-of-suc-le-suc, eq-or-lt-of-le}
@@ -9,9 +9,9 @@ use mathlib.Core.Bool.{Bool, true, false}
 use mathlib.Core.Logic.{⊎-elim}
 use lib.Dec.{ltb, ltb→lt, eqb, lit<}
 use lib.Pow.{pow-mono}
-use Rattle.laws.specs.Choice.{choose, both}
+use Rattle.laws.specs.Logic.{when, both}
 use Rattle.laws.specs.Tests.{allBelow}
-use Rattle.laws.proofs.Chosen.{chosen, bit-of-test}
+use Rattle.laws.proofs.Logic.{either-way, bit-of-test}
 use Rattle.laws.proofs.Computed.{below}
 use Rattle.items.specs.Items.{setOf, bitOf, inSet}
 use Rattle.items.proofs.Bits.{bit-below, bit-at}
@@ -28,9 +28,9 @@ weight-more i = rw add-one (omega arith)
 pub set-small : (f : ℕ → Bool) (n : ℕ) → setOf f n < 2 ^ n
 unfolding setOf
 set-small f zero = lit< tt
-set-small f (suc n) = chosen (λ (w : ℕ). setOf f n + w < 2 ^ suc n) (f n) (2 ^ n) 0 (λ _. omega (arith, set-small f n)) (λ _. omega (arith, set-small f n))
+set-small f (suc n) = either-way (λ (w : ℕ). setOf f n + w < 2 ^ suc n) (f n) (2 ^ n) 0 (λ _. omega (arith, set-small f n)) (λ _. omega (arith, set-small f n))
 
-pub set-more : (f : ℕ → Bool) (n : ℕ) → setOf f n + choose (f n) (2 ^ n) 0 ≡ setOf f (n + 1)
+pub set-more : (f : ℕ → Bool) (n : ℕ) → setOf f n + when (f n) (2 ^ n) 0 ≡ setOf f (n + 1)
 unfolding setOf
 set-more f n = rw add-one
 
@@ -47,8 +47,8 @@ past-set items i small h =
     simp none
 
 -- an item is in the set exactly where it was put there
-weight-of : (t : Bool) (w x : ℕ) → x + choose t w 0 ≡ choose t 1 0 * w + x
-unfolding choose
+weight-of : (t : Bool) (w x : ℕ) → x + when t w 0 ≡ when t 1 0 * w + x
+unfolding when
 weight-of true w x = omega arith
 weight-of false w x = omega arith
 
@@ -58,8 +58,8 @@ set-has f zero i h = absurd (not-suc-le-zero h)
 set-has f (suc n) i h =
     let split = weight-of (f n) (2 ^ n) (setOf f n) in
     ap (λ (s : ℕ). eqb (bitOf i s) 1) split
-    ∙ ⊎-elim (λ e. rw e (ap (λ (k : ℕ). eqb k 1) (bit-at (choose (f n) 1 0) n (setOf f n) (bit-of-test (f n) .0) (set-small f n)) ∙ bit-of-test (f n) .1))
-    (λ l. ap (λ (k : ℕ). eqb k 1) (bit-below (choose (f n) 1 0) n (setOf f n) i l) ∙ set-has f n i l)
+    ∙ ⊎-elim (λ e. rw e (ap (λ (k : ℕ). eqb k 1) (bit-at (when (f n) 1 0) n (setOf f n) (bit-of-test (f n) .0) (set-small f n)) ∙ bit-of-test (f n) .1))
+    (λ l. ap (λ (k : ℕ). eqb k 1) (bit-below (when (f n) 1 0) n (setOf f n) i l) ∙ set-has f n i l)
     (eq-or-lt-of-le (le-of-suc-le-suc h))
 
 -- sets of the same items are the same

@@ -4,7 +4,7 @@ use mathlib.Core.Bool.{Bool}
 use mathlib.Core.List.{List, [], _∷_}
 use lib.Dec.{eqb}
 use lib.ListN.{getD}
-use Rattle.laws.specs.Choice.{choose}
+use Rattle.laws.specs.Logic.{when}
 use Rattle.items.specs.declared.ItemPlace.{ItemPlace}
 
 abbrev at : ℕ → ℕ → ItemPlace
@@ -29,7 +29,7 @@ hasItem group item = eqb (bitOf (placeOf item .bit .0) (getD group (placeOf item
 -- a set of items below n as a number, bit i for item i
 unfoldable pub setOf : (ℕ → Bool) → ℕ → ℕ
 setOf f zero = 0
-setOf f (suc n) = setOf f n + choose (f n) (2 ^ n) 0
+setOf f (suc n) = setOf f n + when (f n) (2 ^ n) 0
 
 -- the item is in the set
 unfoldable pub inSet : ℕ → ℕ → Bool
@@ -42,8 +42,16 @@ itemsOf group = setOf (hasItem group) 13
 -- the bits of an octet of the group in which the items of a set stand, of items below n
 unfoldable pub itemBits : ℕ → ℕ → ℕ → ℕ
 itemBits items octet zero = 0
-itemBits items octet (suc n) = itemBits items octet n + choose (eqb (placeOf n .octet) octet) (bitOf n items * 2 ^ placeOf n .bit .0) 0
+itemBits items octet (suc n) = itemBits items octet n + when (eqb (placeOf n .octet) octet) (bitOf n items * 2 ^ placeOf n .bit .0) 0
+
+-- the table of tags: 5 is the modulation group's
+abbrev pub modulation : ℕ
+modulation = 5
+
+-- "An extension octet has b4 = 1, b3 = 0, b5 = 0.": one that says no items
+abbrev pub noItems : ℕ
+noItems = 16
 
 -- an octet of the modulation group: the category octet with its tag, then extension octets, with the bits of the items that stand there
 unfoldable pub modulationOctet : ℕ → ℕ → ℕ
-modulationOctet items octet = choose (eqb octet 0) 5 16 + itemBits items octet 13
+modulationOctet items octet = when (eqb octet 0) modulation noItems + itemBits items octet 13

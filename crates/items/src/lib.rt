@@ -2,8 +2,17 @@
 ghost use mathlib.Core.Path.{_≡_};
 ghost use Prim.Native.Nat.{_+_, _*_, _/_, _%_, _<_, _≤_};
 ghost use lib.Dec.{eqb};
-ghost use Rattle.laws.specs.Choice.{choose};
-ghost use Rattle.items.specs.Items.{placeOf, bitOf, hasItem, itemsOf, inSet, modulationOctet};
+ghost use Rattle.laws.specs.Logic.{when};
+ghost use Rattle.items.specs.Items.{placeOf, bitOf, hasItem, itemsOf, inSet, noItems, modulationOctet};
+
+// The tag of the modulation group.
+pub const MODULATION: u8 = 5;
+
+// How many items there are, 0 to 12.
+pub const ITEMS: u8 = 13;
+
+// An extension octet that says no items: b4 alone.
+const NO_ITEMS: u8 = 16;
 
 // An item of the modulation group, and a bit of an octet: one cannot be passed where the other belongs.
 pub struct Item(pub u8);
@@ -44,15 +53,13 @@ fn has_item(group: &[u8], item: Item) -> bool
 {
     let place = place_of(item);
     let at = place.octet as usize;
-    if at < group.len() {
-        return has_bit(group[at], place.bit);
-    }
-    false
+    at < group.len() && has_bit(group[at], place.bit)
 }
 
 fn with_item(set: u16, weight: u16, there: bool) -> u16
-    requires { ⌜ (set < weight) × (weight ≤ 8192) ⌝ }
-    ensures { λ r. ⌜ r ≡ set + choose there weight 0 ⌝ }
+    requires { ⌜ set < weight ⌝ }
+    requires { ⌜ weight ≤ 8192 ⌝ }
+    ensures { λ r. ⌜ r ≡ set + when there weight 0 ⌝ }
 {
     if there {
         return set + weight;
@@ -67,7 +74,7 @@ pub fn items_in(group: &[u8]) -> u16
     let mut set: u16 = 0;
     let mut weight: u16 = 1;
     let mut i: u8 = 0;
-    while i < 13 {
+    while i < ITEMS {
         set = with_item(set, weight, has_item(group, Item(i)));
         weight *= 2;
         i += 1;
@@ -79,17 +86,14 @@ pub fn items_in(group: &[u8]) -> u16
 pub fn in_set(items: u16, item: Item) -> bool
     ensures { λ r. ⌜ r ≡ inSet items (item .0) ⌝ }
 {
-    if item.0 < 16 {
-        return (items >> item.0) % 2 == 1;
-    }
-    false
+    item.0 < 16 && (items >> item.0) % 2 == 1
 }
 
 // An extension octet with its five bits for items: b0, b1, b2, b6, b7.
 fn extension_octet(five: u16) -> u8
-    ensures { λ r. ⌜ r ≡ 16 + five % 8 + 64 * (five / 8 % 4) ⌝ }
+    ensures { λ r. ⌜ r ≡ noItems + five % 8 + 64 * (five / 8 % 4) ⌝ }
 {
-    (16 + five % 8 + 64 * (five / 8 % 4)) as u8
+    NO_ITEMS + (five % 8) as u8 + 64 * ((five / 8 % 4) as u8)
 }
 
 // An octet of the modulation group that says these items.
@@ -97,7 +101,7 @@ pub fn modulation_octet(items: u16, octet: u8) -> u8
     ensures { λ r. ⌜ r ≡ modulationOctet items octet ⌝ }
 {
     if octet == 0 {
-        return (5 + 32 * (items % 8)) as u8;
+        return MODULATION + 32 * ((items % 8) as u8);
     }
     if octet == 1 {
         return extension_octet(items / 8);
@@ -105,5 +109,5 @@ pub fn modulation_octet(items: u16, octet: u8) -> u8
     if octet == 2 {
         return extension_octet(items / 256);
     }
-    16
+    NO_ITEMS
 }

@@ -1,5 +1,6 @@
 pub mod Cases
-pub mod Chosen
+pub mod Logic
 pub mod Computed
+pub mod Joined
 pub mod Rest
 pub mod Same

@@ -9,9 +9,9 @@ use borrow.Author.Tests.{eq-eqb, ne-eqb}
 use lib.Dec.{eqb}
 use lib.ListN.{length, drop, getD, drop-of-length-le}
 use lib.Seq.{drop-cons}
-use Rattle.laws.specs.Choice.{both}
+use Rattle.laws.specs.Logic.{both}
 use Rattle.laws.specs.Tests.{sameList}
-use Rattle.laws.proofs.Chosen.{both-neither}
+use Rattle.laws.proofs.Logic.{both-neither}
 
 -- lists of different lengths are not the same
 pub same-lengths : (xs ys : List ℕ) → (length xs ≡ length ys → ⊥) → sameList xs ys ≡ false

@@ -1,3 +1,4 @@
-pub mod Choice
+pub mod Logic
 pub mod Front
+pub mod Joined
 pub mod Tests

@@ -3,7 +3,7 @@ use Prim.Native.Nat.{ℕ, zero, suc}
 use mathlib.Core.Bool.{Bool, true, false}
 use mathlib.Core.List.{List, [], _∷_}
 use lib.Dec.{eqb}
-use Rattle.laws.specs.Choice.{both}
+use Rattle.laws.specs.Logic.{both}
 
 -- the test holds of every number below the limit
 unfoldable pub allBelow : (ℕ → Bool) → ℕ → Bool

@@ -1,84 +1,19 @@
 -- Document 01, 'Listening': many bits, up to the first that asks for something.
-use Prim.Native.Nat.{ℕ, zero, suc, _+_, _*_, _/_, _%_, _<_, _≤_}
-use mathlib.Core.Path.{_≡_}
-use mathlib.Core.Bool.{Bool, true, not}
+use Prim.Native.Nat.{ℕ, _+_}
 use mathlib.Core.List.{List, [], _∷_}
-use lib.Dec.{ltb, eqb}
-use lib.ListN.{length, drop, getD}
-use Rattle.laws.specs.Choice.{choose, both, either}
-use Rattle.laws.specs.Tests.{every}
-use Rattle.octets.specs.Octets.{bad}
+use lib.Dec.{eqb}
+use Rattle.laws.specs.Logic.{when}
 use Rattle.framing.specs.declared.Ear.{Ear}
-use Rattle.framing.specs.declared.Stepped.{Stepped}
-use Rattle.framing.specs.Framing.{octetOf, nothing, hunting, refuse, stepped, stay}
+use Rattle.framing.specs.declared.Turned.{Turned}
+use Rattle.framing.specs.Framing.{nothing, stay, turnedBy}
 use Rattle.leaps.specs.declared.Advanced.{Advanced}
-use Rattle.leaps.specs.declared.Passed.{Passed}
 
--- a byte that is no bit is refused and turns nothing
-abbrev pub turnedBy : Ear → ℕ → ℕ → Stepped
-turnedBy ear len bit = choose (ltb 1 bit) (stay ear (refuse 1)) (stepped ear len bit)
-
-abbrev pub advancedTo : Stepped → ℕ → Advanced
-advancedTo s at = record { ear = s .ear; act = s .act; at = at }
+abbrev pub advancedTo : Turned → ℕ → Advanced
+advancedTo t at = record { ear = t .ear; act = t .act; at = at }
 
 -- bit after bit, up to the first that asks for something, where the first of them stands at n
 unfoldable pub advanced : Ear → ℕ → List ℕ → ℕ → Advanced
 advanced ear len [] n = advancedTo (stay ear nothing) n
 advanced ear len (bit ∷ bits) n =
-    choose (eqb (turnedBy ear len bit .act) nothing) (advanced (turnedBy ear len bit .ear) len bits (n + 1))
+    when (eqb (turnedBy ear len bit .act) nothing) (advanced (turnedBy ear len bit .ear) len bits (n + 1))
     (advancedTo (turnedBy ear len bit) (n + 1))
-
--- From here on: what the ways to leap promise to each other. What a caller is promised, `advanced`, stands above.
-
--- an ear that has heard thirty bits or more
-abbrev pub full : ℕ → ℕ → Ear
-full past place = record { past = past; heard = 30; place = place }
-
-abbrev pub reached : ℕ → ℕ → ℕ → ℕ → Advanced
-reached past place act at = advancedTo (stay (full past place) act) at
-
--- what is advanced to from here, if nothing was asked for yet
-unfoldable pub resumed : Advanced → ℕ → List ℕ → Advanced
-resumed r len bits = choose (eqb (r .act) nothing) (advanced (r .ear) len (drop (r .at) bits) (r .at)) r
-
--- a leap is as if each of its bits were heard
-pub record Leads (ear : Ear) (len : ℕ) (bits : List ℕ) (from : ℕ) (r : Advanced) : Type 0 where
-  pub on : from ≤ r .at
-  pub same : advanced ear len (drop from bits) from ≡ resumed r len bits
-
--- the bits heard last are CJ, or ten 1s and a 0
-unfoldable pub standsOut : ℕ → Bool
-standsOut past = either (eqb (past / 4) 537395712) (eqb (past / 2097152) 1023)
-
--- bits that go by while hunting
-pub record Passes (past : ℕ) (bits : List ℕ) (from : ℕ) (p : Passed) : Type 0 where
-  pub small : p .past < 4294967296
-  pub on : from ≤ p .at
-  pub same : (len : ℕ) → advanced (full past hunting) len (drop from bits) from ≡ advanced (full (p .past) hunting) len (drop (p .at) bits) (p .at)
-
--- so many bytes from i on, and whether they are bits
-unfoldable pub span : List ℕ → ℕ → ℕ → List ℕ
-span s i zero = []
-span s i (suc n) = getD s i 0 ∷ span s (i + 1) n
-
-abbrev pub isBit : ℕ → Bool
-isBit b = ltb b 2
-
--- the number of bits, the first lowest
-abbrev pub value : List ℕ → ℕ
-value [] = 0
-value (b ∷ bs) = b + 2 * value bs
-
--- ten bits stand there, and make this number
-pub record TenAt (s : List ℕ) (i ten : ℕ) : Type 0 where
-  pub room : i + 10 ≤ length s
-  pub bits : every isBit (span s i 10) ≡ true
-  pub number : ten ≡ value (span s i 10)
-
--- the past once ten bits are heard
-abbrev pub afterTen : ℕ → ℕ → ℕ
-afterTen past ten = past / 1024 + ten * 4194304
-
--- ten bits are an octet other than 0 in its frame, and it is stored
-unfoldable pub isStored : ℕ → ℕ → ℕ → Bool
-isStored ten past len = both (eqb (ten % 2) 0) (both (ltb 512 ten) (both (ltb len 64) (not (bad (octetOf past)))))

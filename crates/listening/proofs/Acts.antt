@@ -1,45 +1,63 @@
--- What a bit asks, and what an act leaves, by whether it reports.
+-- What an act leaves, by what it asks; and that the two parts of a bit are the bit.
 -- Assumes nothing.
-use Prim.Native.Nat.{ℕ, _≤_}
+use Prim.Native.Nat.{ℕ, _<_}
 use native.Mathlib.Omega.{arith}
-use mathlib.Core.Path.{_≡_, ap}
-use mathlib.Core.Logic.{⊎-elim}
-use borrow.Author.Tests.{le-ltb, eq-eqb, ne-eqb}
-use lib.Dec.{ltb}
-use Rattle.laws.specs.Choice.{choose}
-use Rattle.framing.specs.declared.Ear.{Ear}
-use Rattle.framing.specs.declared.Stepped.{Stepped}
-use Rattle.framing.specs.Framing.{octetOf, Refuses, stepped, stay}
+use mathlib.Core.Path.{_≡_, refl, ap}
+use mathlib.Core.Bool.{Bool, true, false}
+use borrow.Author.Tests.{lt-ltb, eq-eqb, ne-eqb}
+use Rattle.laws.specs.Logic.{when}
+use Rattle.framing.specs.declared.Turned.{Turned}
+use Rattle.framing.specs.Framing.{octetOf, startCi, startMenu, store, report, refusalAct, refusalIn, stay, turnedBy}
 use Rattle.listening.specs.declared.Message.{Message}
 use Rattle.listening.specs.declared.Listener.{Listener}
-use Rattle.listening.specs.Hearing.{stored, changed, acted}
-
--- a byte that is a bit turns the ear
-pub bit-steps : (ear : Ear) (len bit : ℕ) → bit ≤ 1 → choose (ltb 1 bit) (stay ear 17) (stepped ear len bit) ≡ stepped ear len bit
-unfolding choose
-bit-steps ear len bit h = simp (le-ltb 1 bit h)
-
--- the last of the refusals, where it is none of the others
-pub refuses-last : (act : ℕ) → Refuses act → (act ≡ 18 → ⊥) → (act ≡ 19 → ⊥) → (act ≡ 20 → ⊥) → act ≡ 29
-refuses-last act r a b c = ⊎-elim (λ e. absurd (a e)) (⊎-elim (λ e. absurd (b e)) (⊎-elim (λ e. absurd (c e)) (λ e. e))) r
+use Rattle.listening.specs.Record.{inRange}
+use Rattle.listening.specs.Hearing.{stored, changed, reported, told, toldAlone, messagesAfter, acted, refusedBit, heardIn, heardBit, earTurned}
 
 -- only the first three acts touch the message being heard
-pub changed-not : (m : Message) (act past : ℕ) → (act ≡ 1 → ⊥) → (act ≡ 2 → ⊥) → (act ≡ 3 → ⊥) → changed m act past ≡ m
-unfolding changed choose
-changed-not m act past a b c = simp (ne-eqb _ _ a, ne-eqb _ _ b, ne-eqb _ _ c)
+pub changed-not : (m : Message) (act past : ℕ) → (act ≡ startCi → ⊥) → (act ≡ startMenu → ⊥) → (act ≡ store → ⊥) → changed m act past ≡ m
+unfolding changed when
+changed-not m act past not-ci not-menu not-store = simp (ne-eqb _ _ not-ci, ne-eqb _ _ not-menu, ne-eqb _ _ not-store)
 
 -- and the third stores an octet
-pub changed-store : (m : Message) (act past : ℕ) → act ≡ 3 → changed m act past ≡ stored m (octetOf past)
-unfolding changed choose
+pub changed-store : (m : Message) (act past : ℕ) → act ≡ store → changed m act past ≡ stored m (octetOf past)
+unfolding changed when
 changed-store m act past e = ap (λ (a : ℕ). changed m a past) e
 
-module _ (rec : Listener) (s : Stepped) where
-  pub acted-report : s .act ≡ 4 → record { ear = s .ear; msg = rec .msg; last = rec .msg } ≡ acted rec s .rec
-  unfolding acted choose
-  acted-report e =
-      let kept : changed (rec .msg) (s .act) (s .ear .past) ≡ rec .msg = changed-not (rec .msg) (s .act) (s .ear .past) (λ z. omega (arith, e, z)) (λ z. omega (arith, e, z)) (λ z. omega (arith, e, z)) in
+-- a report makes the message the one reported last, and the others touch the message alone
+module _ (m last : Message) (act past : ℕ) where
+  pub messages-report : act ≡ report → record { msg = m; last = m } ≡ messagesAfter m last act past
+  unfolding when
+  messages-report e =
+      let kept : changed m act past ≡ m = changed-not m act past (λ z. omega (arith, e, z)) (λ z. omega (arith, e, z)) (λ z. omega (arith, e, z)) in
       simp (eq-eqb _ _ e, kept)
 
-  pub acted-other : (s .act ≡ 4 → ⊥) → record { ear = s .ear; msg = changed (rec .msg) (s .act) (s .ear .past); last = rec .last } ≡ acted rec s .rec
-  unfolding acted choose
-  acted-other n = simp (ne-eqb _ _ n)
+  pub messages-other : (act ≡ report → ⊥) → record { msg = changed m act past; last = last } ≡ messagesAfter m last act past
+  unfolding when
+  messages-other n = simp (ne-eqb _ _ n)
+
+-- what a report tells, and what the others do
+module _ (act : ℕ) (m last : Message) where
+  pub told-report : act ≡ report → told act m last ≡ reported m last
+  unfolding told when
+  told-report e = simp (eq-eqb _ _ e)
+
+  pub told-other : (act ≡ report → ⊥) → told act m last ≡ toldAlone act
+  unfolding told when
+  told-other n = simp (ne-eqb _ _ n)
+
+-- a byte that is no bit is refused, and the record keeps its value
+pub heard-not-a-bit : (rec : Listener) (bit : ℕ) → 1 < bit → heardIn rec bit ≡ refusedBit 1 rec
+unfolding heardIn acted changed told toldAlone when refusalIn
+heard-not-a-bit rec bit high = simp (lt-ltb 1 bit high)
+
+-- an ear that is turned in range, and an act upon what that leaves, are the bit
+module _ (rec : Listener) (bit : ℕ) where
+  by-range : (within : Bool) → inRange rec ≡ within
+      → acted rec (when within (turnedBy (rec .ear) (rec .msg .len) bit) (stay (rec .ear) (refusalAct 10))) ≡ when within (heardIn rec bit) (refusedBit 10 rec)
+  unfolding heardIn acted changed told toldAlone when refusalIn
+  by-range true e = refl
+  by-range false e = refl
+
+  pub parts-heard : acted rec (earTurned (rec .ear) (rec .msg .kind) (rec .msg .len) (rec .last .kind) (rec .last .len) bit) ≡ heardBit rec bit
+  unfolding earTurned
+  parts-heard = by-range (inRange rec) refl

@@ -1,5 +1,4 @@
+pub mod Ranges
 pub mod Acts
 pub mod Many
-pub mod Parts
-pub mod Ranges
 pub mod Unique

@@ -1,11 +1,12 @@
 -- docs/RANGES.md: what a listening record may hold, and the fresh one.
-use Prim.Native.Nat.{ℕ, _≤_}
+use Prim.Native.Nat.{ℕ}
 use mathlib.Core.Bool.{Bool}
 use lib.Dec.{leb}
 use lib.ListN.{replicate}
-use Rattle.laws.specs.Choice.{both}
+use Rattle.laws.specs.Logic.{both}
 use Rattle.framing.specs.declared.Ear.{Ear}
-use Rattle.framing.specs.Ranges.{EarFits, earInRange}
+use Rattle.framing.specs.Framing.{hunting}
+use Rattle.framing.specs.Ranges.{earInRange}
 use Rattle.listening.specs.declared.Message.{Message}
 use Rattle.listening.specs.declared.Listener.{Listener}
 
@@ -21,19 +22,9 @@ partsInRange ear kind len lastKind lastLen = both (earInRange ear) (both (messag
 abbrev pub inRange : Listener → Bool
 inRange rec = partsInRange (rec .ear) (rec .msg .kind) (rec .msg .len) (rec .last .kind) (rec .last .len)
 
--- the same, as facts
-pub record MessageFits (m : Message) : Type 0 where
-  pub kind : m .kind ≤ 2
-  pub len : m .len ≤ 64
-
-pub record Fits (rec : Listener) : Type 0 where
-  pub ear : EarFits (rec .ear)
-  pub msg : MessageFits (rec .msg)
-  pub last : MessageFits (rec .last)
-
 -- "In a fresh record nothing has been heard."
 abbrev pub empty : Message
 empty = record { kind = 0; len = 0; octets = replicate 64 0 }
 
 abbrev pub fresh : Listener
-fresh = record { ear = record { past = 0; heard = 0; place = 0 }; msg = empty; last = empty }
+fresh = record { ear = record { past = 0; heard = 0; place = hunting }; msg = empty; last = empty }

@@ -1,22 +1,21 @@
 // Listening: what is heard on a line, bit by bit. The host keeps one record for each line.
 //
-// The record is large and a bit touches little of it, so a bit first turns the ear, which is three numbers, and says what is
-// to be done with the messages; the messages are touched only then.
+// The record is large and a bit touches little of it. So a bit has two parts: `turn_ear` needs the ear and four numbers, and says what
+// is to be done; `act_on` does that to the messages, and `tell` says what it tells. Whoever hears a bit goes through these.
+use framing::BAD_RECORD;
 use framing::Ear;
-use framing::Stepped;
-use octets::Purpose;
-use octets::Refusal;
-use octets::Verdict;
+use framing::HUNTING;
+use framing::REPORT;
+use framing::START_CI;
+use framing::START_MENU;
+use framing::STORE;
+use framing::TELL_CJ;
+use framing::Turned;
+use refusals::Refusal;
 ghost use mathlib.Core.Path.{_≡_};
-ghost use Prim.Native.Nat.{_-_, _<_};
-ghost use lib.Dec.{eqb};
 ghost use lib.ListN.{take};
-ghost use Rattle.octets.specs.Refusals.{number};
-ghost use Rattle.octets.specs.Lists.{listFault};
-ghost use Rattle.framing.specs.Framing.{Refuses, ActFits};
-ghost use Rattle.listening.specs.Record.{Fits, messageInRange, partsInRange, inRange, empty, fresh};
-ghost use Rattle.listening.specs.Parts.{glanced, settledMessage, settled};
-ghost use Rattle.listening.specs.Hearing.{says, started, stored, changed, agreed, reported, told, acted, heardIn, heard, listened, heardMany, Hears, HearsMany, finished};
+ghost use Rattle.listening.specs.Record.{messageInRange, partsInRange, inRange, empty, fresh};
+ghost use Rattle.listening.specs.Hearing.{saysHeard, started, stored, changed, agreed, reported, toldAlone, told, messagesAfter, listenerOf, heardBit, earTurned, listened, heardBits, Hears, HearsMany};
 
 // A message: 1 for CI, 2 for a menu, 0 for none; how many octets it has; and these.
 #[repr(C)]
@@ -43,17 +42,32 @@ pub enum Heard {
     Refused(Refusal),
 }
 
-pub struct Answer {
+// The message being heard or heard last, and the message reported last.
+pub struct Messages {
+    pub msg: Message,
+    pub last: Message,
+}
+
+// A bit: the record behind it, and what it reports.
+pub struct BitHeard {
     pub rec: Listener,
-    pub heard: Heard,
+    pub report: Heard,
 }
 
 // Many bits: how many were taken, and what the last of them reported.
-pub struct Ran {
+pub struct BitsHeard {
     pub rec: Listener,
     pub taken: usize,
-    pub heard: Heard,
+    pub report: Heard,
 }
+
+// The kinds of a message.
+const CI: u8 = 1;
+
+const MENU: u8 = 2;
+
+// How many octets a message has at most.
+const MOST_OCTETS: u8 = 64;
 
 fn start(m: Message, kind: u8) -> Message
     ensures { λ r. ⌜ r ≡ started m kind ⌝ }
@@ -64,11 +78,11 @@ fn start(m: Message, kind: u8) -> Message
     next
 }
 
+// A message of 64 octets takes no further one: the framing refuses that. So there is nothing to test here.
 fn put(m: Message, b: u8) -> Message
-    requires { ⌜ m .len < 64 ⌝ }
     ensures { λ r. ⌜ r ≡ stored m b ⌝ }
 {
-    let n = m.len;
+    let n = m.len % MOST_OCTETS;
     let at = n as usize;
     let mut next = m;
     next.octets[at] = b;
@@ -78,16 +92,15 @@ fn put(m: Message, b: u8) -> Message
 
 // What an act does to the message being heard.
 fn change(m: Message, act: u32, past: u32) -> Message
-    requires { ⌜ (act ≡ 3 → m .len < 64) ⌝ }
     ensures { λ r. ⌜ r ≡ changed m act past ⌝ }
 {
-    if act == 1 {
-        return start(m, 1);
+    if act == START_CI {
+        return start(m, CI);
     }
-    if act == 2 {
-        return start(m, 2);
+    if act == START_MENU {
+        return start(m, MENU);
     }
-    if act == 3 {
+    if act == STORE {
         return put(m, framing::octet_heard(past));
     }
     m
@@ -103,17 +116,6 @@ fn first(octets: &[u8], n: usize) -> &[u8]
     octets
 }
 
-// Whether reading the octets gives no refusal.
-fn readable(octets: &[u8]) -> bool
-    ensures { λ r. ⌜ r ≡ eqb (listFault Purpose.Reading (now (octets .entry))) 0 ⌝ }
-{
-    let verdict = octets::test(Purpose::Reading, octets);
-    match verdict {
-        Verdict::Accepted => true,
-        Verdict::Refused(_) => false,
-    }
-}
-
 // Whether a menu is agreed, where `last` was reported just before it.
 fn agree(m: Message, last: Message) -> bool
     ensures { λ r. ⌜ r ≡ agreed m last ⌝ }
@@ -122,108 +124,55 @@ fn agree(m: Message, last: Message) -> bool
     let last_kind = last.kind;
     let octets = m.octets;
     let before = last.octets;
-    let heard = first(&octets, m.len as usize);
-    if readable(heard) {
-        if kind == last_kind {
-            return octets::same(heard, first(&before, last.len as usize));
-        }
-        return false;
-    }
-    false
+    let menu = first(&octets, m.len as usize);
+    octets::can_read(menu)
+        && (kind == last_kind && octets::same(menu, first(&before, last.len as usize)))
 }
 
-fn report(m: Message, last: Message) -> Heard
-    ensures { λ r. ⌜ says r ≡ reported m last ⌝ }
+fn report_of(m: Message, last: Message) -> Heard
+    ensures { λ r. ⌜ saysHeard r ≡ reported m last ⌝ }
 {
     let kind = m.kind;
-    if kind == 1 {
+    if kind == CI {
         return Heard::Ci;
     }
     Heard::Menu(agree(m, last))
 }
 
-// A refusal that the framing gives: 2, 3, 4 or 13.
-fn refusal_of(act: u32) -> Refusal
-    requires { ⌜ Refuses act ⌝ }
-    ensures { λ r. ⌜ number r ≡ act - 16 ⌝ }
+// What an act tells that reports no message.
+fn tell_alone(act: u32) -> Heard
+    ensures { λ r. ⌜ saysHeard r ≡ toldAlone act ⌝ }
 {
-    if act == 18 {
-        return Refusal::StopBitZero;
+    if act < REPORT {
+        return Heard::Nothing;
     }
-    if act == 19 {
-        return Refusal::BadOctet;
+    if act == TELL_CJ {
+        return Heard::Cj;
     }
-    if act == 20 {
-        return Refusal::TooManyOctets;
-    }
-    Refusal::CutShort
+    Heard::Refused(framing::refusal_in(act))
 }
 
 // What an act tells.
-fn tell(act: u32, m: Message, last: Message) -> Heard
-    requires { ⌜ ActFits act (m .len) ⌝ }
-    ensures { λ r. ⌜ says r ≡ told act m last ⌝ }
+pub fn tell(act: u32, m: Message, last: Message) -> Heard
+    ensures { λ r. ⌜ saysHeard r ≡ told act m last ⌝ }
 {
-    if act < 4 {
-        return Heard::Nothing;
+    if act == REPORT {
+        return report_of(m, last);
     }
-    if act == 4 {
-        return report(m, last);
-    }
-    if act == 5 {
-        return Heard::Cj;
-    }
-    Heard::Refused(refusal_of(act))
-}
-
-// What an act does to the record and tells.
-fn act_on(rec: Listener, s: Stepped) -> Answer
-    requires { ⌜ ActFits (s .act) (rec .msg .len) ⌝ }
-    ensures { λ r. ⌜ Hears (acted rec s) r ⌝ }
-{
-    let ear = s.ear;
-    let act = s.act;
-    let msg = rec.msg;
-    let last = rec.last;
-    let heard = tell(act, msg, last);
-    if act == 4 {
-        return Answer {
-            rec: Listener {
-                ear: ear,
-                msg: msg,
-                last: msg,
-            },
-            heard: heard,
-        };
-    }
-    let next = change(msg, act, ear.past);
-    Answer {
-        rec: Listener {
-            ear: ear,
-            msg: next,
-            last: last,
-        },
-        heard: heard,
-    }
+    tell_alone(act)
 }
 
 fn message_fits(kind: u8, len: u8) -> bool
     ensures { λ r. ⌜ r ≡ messageInRange kind len ⌝ }
 {
-    if kind <= 2 { len <= 64 } else { false }
+    kind <= MENU && len <= MOST_OCTETS
 }
 
 // The ranges of docs/RANGES.md, of what a bit looks at.
 fn parts_fit(ear: Ear, kind: u8, len: u8, last_kind: u8, last_len: u8) -> bool
     ensures { λ r. ⌜ r ≡ partsInRange ear kind len «last_kind» «last_len» ⌝ }
 {
-    if framing::ear_fits(ear) {
-        if message_fits(kind, len) {
-            return message_fits(last_kind, last_len);
-        }
-        return false;
-    }
-    false
+    framing::ear_fits(ear) && (message_fits(kind, len) && message_fits(last_kind, last_len))
 }
 
 fn fits(rec: Listener) -> bool
@@ -235,32 +184,61 @@ fn fits(rec: Listener) -> bool
     parts_fit(ear, msg.kind, msg.len, last.kind, last.len)
 }
 
-// A bit, where the record is in range.
-fn hear_in(rec: Listener, bit: u8) -> Answer
-    requires { ⌜ Fits rec ⌝ }
-    ensures { λ r. ⌜ Hears (heardIn rec bit) r ⌝ }
+// The first part of a bit: the ear is turned, unless the record is out of its range. Most bits ask for nothing more.
+pub fn turn_ear(ear: Ear, kind: u8, len: u8, last_kind: u8, last_len: u8, bit: u8) -> Turned
+    ensures { λ r. ⌜ r ≡ earTurned ear kind len «last_kind» «last_len» bit ⌝ }
 {
-    if 1 < bit {
-        return Answer {
-            rec: rec,
-            heard: Heard::Refused(Refusal::NotABit),
+    if parts_fit(ear, kind, len, last_kind, last_len) {
+        return framing::turn(ear, len, bit);
+    }
+    Turned {
+        ear: ear,
+        act: BAD_RECORD,
+    }
+}
+
+// The second part, where something is asked for: what that does to the two messages. `tell` says what it tells.
+pub fn act_on(msg: Message, last: Message, act: u32, past: u32) -> Messages
+    ensures { λ r. ⌜ r ≡ messagesAfter msg last act past ⌝ }
+{
+    if act == REPORT {
+        return Messages {
+            msg: msg,
+            last: msg,
         };
     }
-    let ear = rec.ear;
-    let msg = rec.msg;
-    act_on(rec, framing::step(ear, msg.len, bit))
+    Messages {
+        msg: change(msg, act, past),
+        last: last,
+    }
+}
+
+// The record with this ear and these messages.
+pub fn listener_of(ear: Ear, messages: Messages) -> Listener
+    ensures { λ r. ⌜ r ≡ listenerOf ear messages ⌝ }
+{
+    let msg = messages.msg;
+    let last = messages.last;
+    Listener {
+        ear: ear,
+        msg: msg,
+        last: last,
+    }
 }
 
 // A bit: what it reports, and the record after it.
-pub fn hear(rec: Listener, bit: u8) -> Answer
-    ensures { λ r. ⌜ Hears (heard rec bit) r ⌝ }
+pub fn hear(rec: Listener, bit: u8) -> BitHeard
+    ensures { λ r. ⌜ Hears (heardBit rec bit) r ⌝ }
 {
-    if fits(rec) {
-        return hear_in(rec, bit);
-    }
-    Answer {
-        rec: rec,
-        heard: Heard::Refused(Refusal::BadRecord),
+    let ear = rec.ear;
+    let msg = rec.msg;
+    let last = rec.last;
+    let turned = turn_ear(ear, msg.kind, msg.len, last.kind, last.len, bit);
+    let next = turned.ear;
+    let after = act_on(msg, last, turned.act, next.past);
+    BitHeard {
+        rec: listener_of(next, after),
+        report: tell(turned.act, msg, last),
     }
 }
 
@@ -282,44 +260,15 @@ pub fn fresh_line() -> Listener
         ear: Ear {
             past: 0,
             heard: 0,
-            place: 0,
+            place: HUNTING,
         },
         msg: no_message(),
         last: no_message(),
     }
 }
 
-// What is left behind where bits were heard up to a report: the act's own.
-fn finish(ear: Ear, msg: Message, last: Message, act: u32, taken: usize) -> Ran
-    requires { ⌜ ActFits act (msg .len) ⌝ }
-    ensures { λ r. ⌜ HearsMany (finished ear msg last act taken) r ⌝ }
-{
-    let heard = tell(act, msg, last);
-    if act == 4 {
-        return Ran {
-            rec: Listener {
-                ear: ear,
-                msg: msg,
-                last: msg,
-            },
-            taken: taken,
-            heard: heard,
-        };
-    }
-    Ran {
-        rec: Listener {
-            ear: ear,
-            msg: msg,
-            last: last,
-        },
-        taken: taken,
-        heard: heard,
-    }
-}
-
-// Bits up to the first that reports something, where the record is in range. The message reported last stands still meanwhile.
-fn run(rec: Listener, bits: &[u8]) -> Ran
-    requires { ⌜ Fits rec ⌝ }
+// Bits up to the first that reports something. The message reported last stands still meanwhile.
+fn run(rec: Listener, bits: &[u8]) -> BitsHeard
     ensures { λ r. ⌜ HearsMany (listened rec (now (bits .entry)) 0) r ⌝ }
 {
     let mut ear = rec.ear;
@@ -331,23 +280,23 @@ fn run(rec: Listener, bits: &[u8]) -> Ran
         ear = a.ear;
         i = a.at;
         let act = a.act;
-        if act == 17 {
-            return Ran {
-                rec: Listener {
-                    ear: ear,
-                    msg: msg,
-                    last: last,
-                },
+        if act == REPORT {
+            return BitsHeard {
+                rec: listener_of(ear, act_on(msg, last, act, ear.past)),
                 taken: i,
-                heard: Heard::Refused(Refusal::NotABit),
+                report: report_of(msg, last),
             };
         }
-        if 3 < act {
-            return finish(ear, msg, last, act, i);
+        if REPORT < act {
+            return BitsHeard {
+                rec: listener_of(ear, act_on(msg, last, act, ear.past)),
+                taken: i,
+                report: tell_alone(act),
+            };
         }
-        if act == 3 {
-            // in place: an octet comes often, and the message is large
-            let n = msg.len;
+        if act == STORE {
+            // as `put` does it, but in place: an octet comes often, and the message is large
+            let n = msg.len % MOST_OCTETS;
             let at = n as usize;
             msg.octets[at] = framing::octet_heard(ear.past);
             msg.len = n + 1;
@@ -355,76 +304,27 @@ fn run(rec: Listener, bits: &[u8]) -> Ran
             msg = change(msg, act, ear.past);
         }
     }
-    Ran {
+    BitsHeard {
         rec: Listener {
             ear: ear,
             msg: msg,
             last: last,
         },
         taken: i,
-        heard: Heard::Nothing,
+        report: Heard::Nothing,
     }
 }
 
 // Many bits: hears them up to the first that reports something, and answers how many were taken.
-pub fn hear_many(rec: Listener, bits: &[u8]) -> Ran
-    ensures { λ r. ⌜ HearsMany (heardMany rec (now (bits .entry))) r ⌝ }
+pub fn hear_many(rec: Listener, bits: &[u8]) -> BitsHeard
+    ensures { λ r. ⌜ HearsMany (heardBits rec (now (bits .entry))) r ⌝ }
 {
     if fits(rec) {
         return run(rec, bits);
     }
-    Ran {
+    BitsHeard {
         rec: rec,
         taken: 0,
-        heard: Heard::Refused(Refusal::BadRecord),
-    }
-}
-
-// A bit in two parts, for a host that lends the record: first what the ear and four numbers tell ..
-pub fn glance(ear: Ear, kind: u8, len: u8, last_kind: u8, last_len: u8, bit: u8) -> Stepped
-    ensures { λ r. ⌜ r ≡ glanced ear kind len «last_kind» «last_len» bit ⌝ }
-{
-    if parts_fit(ear, kind, len, last_kind, last_len) {
-        return framing::step(ear, len, bit);
-    }
-    framing::keep(ear, 26)
-}
-
-fn settle_message(m: Message, act: u32, past: u32) -> Message
-    ensures { λ r. ⌜ r ≡ settledMessage m act past ⌝ }
-{
-    if act == 3 {
-        if m.len < 64 {
-            return change(m, act, past);
-        }
-        return m;
-    }
-    change(m, act, past)
-}
-
-// .. and then, where it asks for that, what is done with the messages.
-pub fn settle(rec: Listener, act: u32) -> Answer
-    ensures { λ r. ⌜ Hears (settled rec act) r ⌝ }
-{
-    let ear = rec.ear;
-    let msg = rec.msg;
-    let last = rec.last;
-    if act == 4 {
-        return Answer {
-            rec: Listener {
-                ear: ear,
-                msg: msg,
-                last: msg,
-            },
-            heard: report(msg, last),
-        };
-    }
-    Answer {
-        rec: Listener {
-            ear: ear,
-            msg: settle_message(msg, act, ear.past),
-            last: last,
-        },
-        heard: Heard::Nothing,
+        report: Heard::Refused(Refusal::BadRecord),
     }
 }

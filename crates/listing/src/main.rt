@@ -9,7 +9,10 @@ use printing::put_octet;
 use printing::put_text;
 ghost use Prim.Native.Nat.{_≤_};
 ghost use lib.ListN.{length};
-ghost use Rattle.listening.specs.Record.{Fits};
+ghost use Rattle.listening.proofs.Ranges.{Fits};
+
+// Room that is kept for the next line, which has at most 218 bytes: 20 digits, a word of four, 64 octets, and what parts and ends them.
+const LINE_ROOM: usize = 256;
 
 // The line's record, how many bits were heard, and whether more may come.
 struct State {
@@ -60,28 +63,28 @@ fn put_refusal(out: &mut [u8], at: usize, place: u64, number: u8) -> usize
 }
 
 // The line of a report.
-fn put_line(out: &mut [u8], at: usize, place: u64, heard: Heard, octets: &[u8]) -> usize
+fn put_line(out: &mut [u8], at: usize, place: u64, report: Heard, octets: &[u8]) -> usize
     requires { ⌜ at ≤ length (now out) ⌝ }
     ensures { λ r. ⌜ r ≤ length (now (out .exit)) ⌝ }
 {
-    match heard {
+    match report {
         Heard::Nothing => at,
         Heard::Ci => put_fields(out, at, place, b"CI", octets),
         Heard::Menu(_) => put_fields(out, at, place, b"MENU", octets),
         Heard::Cj => put_fields(out, at, place, b"CJ", b""),
-        Heard::Refused(r) => put_refusal(out, at, place, octets::refusal_number(r)),
+        Heard::Refused(r) => put_refusal(out, at, place, refusals::refusal_number(r)),
     }
 }
 
 // How many of the bytes taken were bits: all, but for one that was refused as none.
-fn bits_of(heard: Heard, taken: usize) -> u64 {
-    match heard {
+fn bits_of(report: Heard, taken: usize) -> u64 {
+    match report {
         Heard::Nothing => taken as u64,
         Heard::Ci => taken as u64,
         Heard::Menu(_) => taken as u64,
         Heard::Cj => taken as u64,
         Heard::Refused(r) => {
-            if octets::refusal_number(r) == 1 {
+            if refusals::refusal_number(r) == 1 {
                 std::num::wrapping_sub_u64(taken as u64, 1)
             } else {
                 taken as u64
@@ -91,7 +94,7 @@ fn bits_of(heard: Heard, taken: usize) -> u64 {
 }
 
 // The first octets of a message.
-fn put_message(out: &mut [u8], at: usize, place: u64, heard: Heard, m: listening::Message) -> usize
+fn put_message(out: &mut [u8], at: usize, place: u64, report: Heard, m: listening::Message) -> usize
     requires { ⌜ at ≤ length (now out) ⌝ }
     ensures { λ r. ⌜ r ≤ length (now (out .exit)) ⌝ }
 {
@@ -99,7 +102,7 @@ fn put_message(out: &mut [u8], at: usize, place: u64, heard: Heard, m: listening
     let all: &[u8] = &octets;
     let n = m.len as usize;
     if n <= all.len() {
-        return put_line(out, at, place, heard, &all[..n]);
+        return put_line(out, at, place, report, &all[..n]);
     }
     at
 }
@@ -109,7 +112,7 @@ fn make_room(out: &[u8], n: usize) -> usize
     requires { ⌜ n ≤ length (now out) ⌝ }
     ensures { λ r. ⌜ r ≤ length (now (out .entry)) ⌝ }
 {
-    if out.len() - n < 256 {
+    if out.len() - n < LINE_ROOM {
         io::write_all(STDOUT_FILENO, &out[..n]);
         return 0;
     }
@@ -126,8 +129,8 @@ fn to_bits(text: &mut [u8]) -> usize
     while i < text.len() {
         let b = text[i];
         i += 1;
-        if b != 10 {
-            text[n] = std::num::wrapping_sub_u8(b, 48);
+        if b != b'\n' {
+            text[n] = std::num::wrapping_sub_u8(b, b'0');
             n += 1;
         }
     }
@@ -147,17 +150,17 @@ fn list(s: State, bits: &[u8], out: &mut [u8]) -> State
         let ran = listening::hear_many(rec, &bits[at..]);
         rec = ran.rec;
         let taken = ran.taken;
-        let heard = ran.heard;
+        let report = ran.report;
         let before = std::num::wrapping_add_u64(count, taken as u64);
         n = put_message(
             out,
             n,
             std::num::wrapping_sub_u64(before, 1),
-            heard,
+            report,
             rec.msg,
         );
         n = make_room(out, n);
-        count = std::num::wrapping_add_u64(count, bits_of(heard, taken));
+        count = std::num::wrapping_add_u64(count, bits_of(report, taken));
         at += taken;
     }
     io::write_all(STDOUT_FILENO, &out[..n]);

@@ -8,9 +8,9 @@ use mathlib.Core.List.{List, [], _∷_, _++_}
 use borrow.Author.Tests.{eqb-true, ne-eqb}
 use lib.ListN.{take, drop}
 use lib.Seq.{drop-drop}
-use Rattle.laws.specs.Choice.{choose, both}
+use Rattle.laws.specs.Logic.{when, both}
 use Rattle.laws.specs.Tests.{every}
-use Rattle.laws.proofs.Chosen.{both-true}
+use Rattle.laws.proofs.Logic.{both-true}
 use Rattle.octets.specs.Octets.{b4, category, extension}
 use Rattle.octets.specs.Lists.{untilCategory, groupEnds}
 use Rattle.octets.proofs.Lists.{group-end}
@@ -19,11 +19,11 @@ use Rattle.menus.specs.Groups.{Looked, place, opensGroup, firstGroup, fr
 -- the first group of a tag, without its place
 unfoldable pub groupFrom : ℕ → List ℕ → List ℕ
 groupFrom t [] = []
-groupFrom t (b ∷ bs) = choose (opensGroup t b) (frontPart (b ∷ bs)) (groupFrom t bs)
+groupFrom t (b ∷ bs) = when (opensGroup t b) (frontPart (b ∷ bs)) (groupFrom t bs)
 
 module _ (whole : List ℕ) where
-  chosen-part : (test : Bool) (i : ℕ) (later : Looked) → partOf whole (choose test (place i) later) ≡ choose test (frontPart (drop i whole)) (partOf whole later)
-  unfolding choose
+  chosen-part : (test : Bool) (i : ℕ) (later : Looked) → partOf whole (when test (place i) later) ≡ when test (frontPart (drop i whole)) (partOf whole later)
+  unfolding when
   chosen-part true i later = refl
   chosen-part false i later = refl
 
@@ -44,8 +44,8 @@ orElse [] later = later
 orElse (b ∷ bs) later = b ∷ bs
 
 -- a group ends where the next part begins with a group
-stretch-on : (test : Bool) (x m n : ℕ) (u v : List ℕ) → take m u ≡ take n v → take (choose test 0 (suc m)) (x ∷ u) ≡ take (choose test 0 (suc n)) (x ∷ v)
-unfolding choose
+stretch-on : (test : Bool) (x m n : ℕ) (u v : List ℕ) → take m u ≡ take n v → take (when test 0 (suc m)) (x ∷ u) ≡ take (when test 0 (suc n)) (x ∷ v)
+unfolding when
 stretch-on true x m n u v e = refl
 stretch-on false x m n u v e = ap (λ (l : List ℕ). x ∷ l) e
 
@@ -56,8 +56,8 @@ stretch-ends (x ∷ a) b e = stretch-on (category x) x (untilCategory (a ++ b)) 
 
 module _ (t x : ℕ) (a b : List ℕ) (e : groupEnds b 0 ≡ true) (later : groupFrom t (a ++ b) ≡ orElse (groupFrom t a) (groupFrom t b)) where
   joined-by : (test : Bool) → opensGroup t x ≡ test
-      → choose test (frontPart (x ∷ (a ++ b))) (groupFrom t (a ++ b)) ≡ orElse (choose test (frontPart (x ∷ a)) (groupFrom t a)) (groupFrom t b)
-  unfolding choose frontPart
+      → when test (frontPart (x ∷ (a ++ b))) (groupFrom t (a ++ b)) ≡ orElse (when test (frontPart (x ∷ a)) (groupFrom t a)) (groupFrom t b)
+  unfolding when frontPart
   joined-by true h = simp (both-true _ _ h .0, stretch-ends a b e)
   joined-by false h = later
 
@@ -71,16 +71,16 @@ extension-no-category : (b : ℕ) → extension b ≡ true → category b ≡ fa
 extension-no-category b h = let one : b4 b ≡ 1 = eqb-true _ _ (both-true _ _ h .0) in ne-eqb (b4 b) 0 (λ z. omega (arith, one, z))
 
 pub no-group : (t : ℕ) (e : List ℕ) → every extension e ≡ true → groupFrom t e ≡ []
-unfolding groupFrom every choose both
+unfolding groupFrom every when both
 no-group t [] h = refl
 no-group t (b ∷ e) h = let here = both-true _ _ h in simp (extension-no-category b (here .0), no-group t e (here .1))
 
 whole-stretch : (e : List ℕ) → every extension e ≡ true → take (untilCategory e) e ≡ e
-unfolding untilCategory every choose
+unfolding untilCategory every when
 whole-stretch [] h = refl
 whole-stretch (b ∷ e) h = let here = both-true _ _ h in simp (extension-no-category b (here .0), whole-stretch e (here .1))
 
 -- a group alone
-pub lone-group : (t b : ℕ) (e : List ℕ) → category b ≡ true → every extension e ≡ true → groupFrom t (b ∷ e) ≡ choose (opensGroup t b) (b ∷ e) []
-unfolding groupFrom frontPart choose both
+pub lone-group : (t b : ℕ) (e : List ℕ) → category b ≡ true → every extension e ≡ true → groupFrom t (b ∷ e) ≡ when (opensGroup t b) (b ∷ e) []
+unfolding groupFrom frontPart when both
 lone-group t b e c h = simp (c, whole-stretch e h, no-group t e h)

@@ -1,3 +1,4 @@
 pub mod Looking
 pub mod Reading
 pub mod Joined
+pub mod Pcm

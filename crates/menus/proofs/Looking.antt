@@ -10,24 +10,24 @@ use borrow.Author.Tests.{eq-eqb, ne-eqb, eqb-true}
 use lib.Dec.{eqb}
 use lib.ListN.{length, take, drop, getD, drop-of-length-le}
 use lib.Seq.{drop-cons}
-use Rattle.laws.specs.Choice.{choose}
-use Rattle.laws.proofs.Chosen.{chosen}
+use Rattle.laws.specs.Logic.{when}
+use Rattle.laws.proofs.Logic.{either-way}
 use Rattle.octets.specs.declared.Purpose.the-variants.{Reading}
-use Rattle.octets.specs.declared.Refusal.{Refusal}
-use Rattle.octets.specs.Refusals.{number}
+use Rattle.refusals.specs.declared.Refusal.{Refusal}
+use Rattle.refusals.specs.Refusals.{number}
 use Rattle.octets.specs.Octets.{category}
 use Rattle.octets.specs.Lists.{listFault, untilCategory}
 use Rattle.octets.proofs.Lists.{accepted-short}
-use Rattle.octets.proofs.Numbers.{number-some}
+use Rattle.refusals.proofs.Numbers.{number-some}
 use Rattle.menus.specs.Groups.{Looked, place, nowhere, refusal, opensGroup, firstGroup, looked, frontPart, partAt}
 
 module _ (t : ℕ) (s : List ℕ) (i : ℕ) where
   pub group-here : i < length s → opensGroup t (getD s i 0) ≡ true → firstGroup t i (drop i s) ≡ place i
-  unfolding firstGroup choose
+  unfolding firstGroup when
   group-here h e = simp (drop-cons s i 0 h, e)
 
   pub group-later : i < length s → opensGroup t (getD s i 0) ≡ false → firstGroup t i (drop i s) ≡ firstGroup t (i + 1) (drop (i + 1) s)
-  unfolding firstGroup choose
+  unfolding firstGroup when
   group-later h e = simp (drop-cons s i 0 h, e, add-one)
 
   pub group-none : length s ≤ i → firstGroup t i (drop i s) ≡ nowhere
@@ -50,36 +50,36 @@ group-below : (t i : ℕ) (s : List ℕ) → Below (i + length s) (firstGroup t 
 unfolding firstGroup
 group-below t i [] = tt
 group-below t i (b ∷ s) =
-    chosen (Below (i + suc (length s))) (opensGroup t b) (place i) (firstGroup t (i + 1) s) (λ _. omega arith)
+    either-way (Below (i + suc (length s))) (opensGroup t b) (place i) (firstGroup t (i + 1) s) (λ _. omega arith)
     (λ _. wider (i + 1 + length s) (i + suc (length s)) (firstGroup t (i + 1) s) (omega arith) (group-below t (i + 1) s))
 
 pub looked-below : (octets : List ℕ) (t : ℕ) → Below 64 (looked octets t)
 unfolding looked
 looked-below octets t =
-    chosen (Below 64) (eqb (listFault Reading octets) 0) (firstGroup t 0 octets) (refusal (listFault Reading octets))
+    either-way (Below 64) (eqb (listFault Reading octets) 0) (firstGroup t 0 octets) (refusal (listFault Reading octets))
     (λ e. wider (0 + length octets) 64 (firstGroup t 0 octets) (omega (arith, accepted-short Reading octets (eqb-true (listFault Reading octets) 0 e))) (group-below t 0 octets))
     (λ _. tt)
 
 -- by whether the message can be read
 module _ (octets : List ℕ) (t : ℕ) where
   pub looked-read : listFault Reading octets ≡ 0 → looked octets t ≡ firstGroup t 0 octets
-  unfolding looked choose
+  unfolding looked when
   looked-read e = simp (eq-eqb _ _ e)
 
   pub looked-refused : (r : Refusal) → number r ≡ listFault Reading octets → refusal (number r) ≡ looked octets t
-  unfolding looked choose
+  unfolding looked when
   looked-refused r e = simp (ne-eqb (listFault Reading octets) 0 (λ z. number-some r (e ∙ z))) (ap refusal e)
 
 -- the part of a place
 module _ (s : List ℕ) (i : ℕ) where
   pub part-here : i < length s → category (getD s i 0) ≡ true → (r : ℕ) → r ≡ i + 1 + untilCategory (drop (i + 1) s) → take (r - i) (drop i s) ≡ partAt s i
-  unfolding frontPart choose
+  unfolding frontPart when
   part-here h c r e =
       let n : r - i ≡ suc (untilCategory (drop (i + 1) s)) = omega arith in
       simp (n, drop-cons s i 0 h, c, add-one)
 
   pub part-not : i < length s → category (getD s i 0) ≡ false → partAt s i ≡ []
-  unfolding frontPart choose
+  unfolding frontPart when
   part-not h c = simp (drop-cons s i 0 h, c)
 
   pub part-past : length s ≤ i → partAt s i ≡ []

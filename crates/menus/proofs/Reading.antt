@@ -1,23 +1,23 @@
--- Reading a menu, by whether its octets can be read; and that answers are known by what they say.
+-- Reading a menu, by whether its octets can be read: the answer and the octets tell the same; and that answers are known by what they say.
 -- Assumes nothing.
 use Prim.Native.Nat.{ℕ, suc}
 use native.Mathlib.Omega.{arith}
 use mathlib.Core.Path.{_≡_, refl, sym, ap, _∙_}
 use mathlib.Core.List.{List}
 use borrow.Author.Tests.{eq-eqb, ne-eqb, eqb-true}
-use Rattle.laws.specs.Choice.{choose}
-use Rattle.laws.proofs.Chosen.{chosen}
+use Rattle.laws.specs.Logic.{when}
+use Rattle.laws.proofs.Logic.{either-way}
 use Rattle.octets.specs.declared.Purpose.the-variants.{Reading}
-use Rattle.octets.specs.declared.Refusal.{Refusal}
-use Rattle.octets.specs.Refusals.{number}
+use Rattle.refusals.specs.declared.Refusal.{Refusal}
+use Rattle.refusals.specs.Refusals.{number}
 use Rattle.octets.specs.Lists.{listFault}
-use Rattle.octets.proofs.Numbers.{named, named-number, number-some}
+use Rattle.refusals.proofs.Numbers.{named, named-number, number-some}
 use Rattle.menus.specs.declared.Found.{Found}
 use Rattle.menus.specs.declared.Found.the-variants as found
 use Rattle.menus.specs.declared.Offer.{Offer}
-use Rattle.menus.specs.declared.Menu.{Menu}
-use Rattle.menus.specs.declared.Menu.the-variants.{Offers, Refused}
-use Rattle.menus.specs.Groups.{Looked, place, nowhere, says}
+use Rattle.menus.specs.declared.ReadMenu.{ReadMenu}
+use Rattle.menus.specs.declared.ReadMenu.the-variants.{Offers, Refused}
+use Rattle.menus.specs.Groups.{Looked, place, nowhere, saysFound}
 use Rattle.menus.specs.Groups as groups
 use Rattle.menus.specs.Offer.{Read, offers, refusal, offerOf, saysRead, menuRead}
 
@@ -32,25 +32,25 @@ offeredOr none (refusal n) = none
 
 module _ (octets : List ℕ) where
   pub menu-read : listFault Reading octets ≡ 0 → menuRead octets ≡ offers (offerOf octets)
-  unfolding menuRead choose
+  unfolding menuRead when
   menu-read e = simp (eq-eqb _ _ e)
 
   pub menu-refused : (r : Refusal) → number r ≡ listFault Reading octets → refusal (number r) ≡ menuRead octets
-  unfolding menuRead choose
+  unfolding menuRead when
   menu-refused r e = simp (ne-eqb (listFault Reading octets) 0 (λ z. number-some r (e ∙ z))) (ap refusal e)
 
   -- and what an answer of the reader tells of its octets
   pub read-refused : (r : Refusal) → refusal (number r) ≡ menuRead octets → number r ≡ listFault Reading octets
   unfolding menuRead
   read-refused r =
-      chosen (λ (m : Read). refusal (number r) ≡ m → number r ≡ listFault Reading octets) _ _ _
+      either-way (λ (m : Read). refusal (number r) ≡ m → number r ≡ listFault Reading octets) _ _ _
       (λ _ e. absurd (omega (arith, ap refusedWith e)))
       (λ _ e. omega (arith, ap refusedWith e))
 
   pub read-offered : (offer : Offer) → offers offer ≡ menuRead octets → (listFault Reading octets ≡ 0) × (offer ≡ offerOf octets)
   unfolding menuRead
   read-offered offer =
-      chosen (λ (m : Read). offers offer ≡ m → (listFault Reading octets ≡ 0) × (offer ≡ offerOf octets)) _ _ _
+      either-way (λ (m : Read). offers offer ≡ m → (listFault Reading octets ≡ 0) × (offer ≡ offerOf octets)) _ _ _
       (λ t e. (eqb-true _ _ t, ap (offeredOr offer) e))
       (λ _ e. absurd (omega (arith, ap refusedWith e)))
 
@@ -60,21 +60,21 @@ finding (place n) = found.At n
 finding nowhere = found.Nothing
 finding (groups.refusal n) = found.Refused (named n)
 
-finding-says : (f : Found) → finding (says f) ≡ f
+finding-says : (f : Found) → finding (saysFound f) ≡ f
 finding-says (found.At n) = refl
 finding-says found.Nothing = refl
 finding-says (found.Refused r) = ap found.Refused (named-number r)
 
-pub says-injective : (f g : Found) → says f ≡ says g → f ≡ g
-says-injective f g e = sym (finding-says f) ∙ ap finding e ∙ finding-says g
+pub says-found-injective : (f g : Found) → saysFound f ≡ saysFound g → f ≡ g
+says-found-injective f g e = sym (finding-says f) ∙ ap finding e ∙ finding-says g
 
-abbrev reading : Read → Menu
+abbrev reading : Read → ReadMenu
 reading (offers o) = Offers o
 reading (refusal n) = Refused (named n)
 
-reading-says : (m : Menu) → reading (saysRead m) ≡ m
+reading-says : (m : ReadMenu) → reading (saysRead m) ≡ m
 reading-says (Offers o) = refl
 reading-says (Refused r) = ap Refused (named-number r)
 
-pub says-read-injective : (m n : Menu) → saysRead m ≡ saysRead n → m ≡ n
+pub says-read-injective : (m n : ReadMenu) → saysRead m ≡ saysRead n → m ≡ n
 says-read-injective m n e = sym (reading-says m) ∙ ap reading e ∙ reading-says n

@@ -4,15 +4,13 @@ use mathlib.Core.Bool.{Bool}
 use mathlib.Core.List.{List, [], _∷_}
 use lib.Dec.{eqb}
 use lib.ListN.{take, drop, getD}
-use Rattle.laws.specs.Choice.{choose, both}
+use Rattle.laws.specs.Logic.{when, both}
 use Rattle.octets.specs.declared.Purpose.the-variants.{Reading}
-use Rattle.octets.specs.Refusals.{number}
+use Rattle.refusals.specs.Refusals.{number}
 use Rattle.octets.specs.Octets.{category, tag, options}
 use Rattle.octets.specs.Lists.{listFault, untilCategory}
-use Rattle.menus.specs.declared.Spot.{Spot}
-use Rattle.menus.specs.declared.Spot.the-variants.{At, Nowhere}
 use Rattle.menus.specs.declared.Found.{Found}
-use Rattle.menus.specs.declared.Found.the-variants as found
+use Rattle.menus.specs.declared.Found.the-variants.{At, Nothing, Refused}
 
 -- what looking gives: a place, nothing, or a refusal's number
 pub data Looked : Type 0 where
@@ -21,14 +19,10 @@ pub data Looked : Type 0 where
   refusal : ℕ → Looked
 
 -- what an answer says on paper
-abbrev pub says : Found → Looked
-says (found.At n) = place n
-says found.Nothing = nowhere
-says (found.Refused r) = refusal (number r)
-
-abbrev pub saysSpot : Spot → Looked
-saysSpot (At n) = place n
-saysSpot Nowhere = nowhere
+abbrev pub saysFound : Found → Looked
+saysFound (At n) = place n
+saysFound Nothing = nowhere
+saysFound (Refused r) = refusal (number r)
 
 -- a category octet with this tag
 abbrev pub opensGroup : ℕ → ℕ → Bool
@@ -37,16 +31,16 @@ opensGroup t b = both (category b) (eqb (tag b) t)
 -- "the place of its first group, or the answer that there is none", counted from i
 unfoldable pub firstGroup : ℕ → ℕ → List ℕ → Looked
 firstGroup t i [] = nowhere
-firstGroup t i (b ∷ bs) = choose (opensGroup t b) (place i) (firstGroup t (i + 1) bs)
+firstGroup t i (b ∷ bs) = when (opensGroup t b) (place i) (firstGroup t (i + 1) bs)
 
 -- "Looking refuses with 4, 5 and 3 as reading does; a tag over 15 is nowhere."
 unfoldable pub looked : List ℕ → ℕ → Looked
-looked octets t = choose (eqb (listFault Reading octets) 0) (firstGroup t 0 octets) (refusal (listFault Reading octets))
+looked octets t = when (eqb (listFault Reading octets) 0) (firstGroup t 0 octets) (refusal (listFault Reading octets))
 
 -- the category octet in front, and what follows "up to the next octet with b4 = 0"
 unfoldable pub frontPart : List ℕ → List ℕ
 frontPart [] = []
-frontPart (b ∷ bs) = choose (category b) (b ∷ take (untilCategory bs) bs) []
+frontPart (b ∷ bs) = when (category b) (b ∷ take (untilCategory bs) bs) []
 
 -- "that stretch of the lent message itself ..; a place that holds no category octet gives the empty part"
 abbrev pub partAt : List ℕ → ℕ → List ℕ

@@ -1,2 +1,4 @@
 pub mod Groups
 pub mod Offer
+pub mod Pcm
+pub mod Inner

@@ -1,13 +1,25 @@
-// Menus: looking for a group, its part of the message, and what a menu offers.
+// Menus: looking for a group, its part of the message, what a menu offers, and which PCM options of two ends pair.
 use octets::Purpose;
-use octets::Refusal;
-use octets::Verdict;
+use refusals::Refusal;
+use refusals::Verdict;
 ghost use mathlib.Core.Path.{_≡_};
 ghost use Prim.Native.Nat.{_+_, _≤_};
 ghost use lib.ListN.{length, drop};
 ghost use Rattle.octets.specs.Lists.{untilCategory};
+ghost use Rattle.menus.specs.Groups.{saysFound, opensGroup, firstGroup, looked, partAt, groupOf, optionsIn};
 ghost use Rattle.menus.specs.Offer.{pcmCounted, offerOf, saysRead, menuRead};
-ghost use Rattle.menus.specs.Groups.{says, saysSpot, opensGroup, firstGroup, looked, partAt, groupOf, optionsIn};
+ghost use Rattle.menus.specs.Pcm.{paired};
+ghost use Rattle.menus.specs.Inner.{saysSpot};
+
+// The tags of the groups, beside octets::CALL_FUNCTION and items::MODULATION.
+pub const PCM: u8 = 7;
+
+pub const PROTOCOL: u8 = 10;
+
+pub const ACCESS: u8 = 13;
+
+// The option of the protocol group that says LAPM.
+pub const LAPM: u8 = 1;
 
 // Where a group stands in a message that can be read.
 enum Spot {
@@ -34,7 +46,8 @@ pub struct Offer {
     pub access_options: u8,
 }
 
-pub enum Menu {
+// What reading a menu gives.
+pub enum ReadMenu {
     Offers(Offer),
     Refused(Refusal),
 }
@@ -43,10 +56,7 @@ pub enum Menu {
 fn opens_group(b: u8, tag: u8) -> bool
     ensures { λ r. ⌜ r ≡ opensGroup tag b ⌝ }
 {
-    if octets::is_category(b) {
-        return octets::tag_of(b) == tag;
-    }
-    false
+    octets::is_category(b) && octets::tag_of(b) == tag
 }
 
 // The first group of a tag, where the octets are readable.
@@ -64,7 +74,7 @@ fn first_group(octets: &[u8], tag: u8) -> Spot
 }
 
 fn found_at(spot: Spot) -> Found
-    ensures { λ r. ⌜ says r ≡ saysSpot spot ⌝ }
+    ensures { λ r. ⌜ saysFound r ≡ saysSpot spot ⌝ }
 {
     match spot {
         Spot::At(i) => Found::At(i),
@@ -74,7 +84,7 @@ fn found_at(spot: Spot) -> Found
 
 // Looks for a tag: the place of its first group, nothing, or why the message cannot be read.
 pub fn find(octets: &[u8], tag: u8) -> Found
-    ensures { λ r. ⌜ says r ≡ looked (now (octets .entry)) tag ⌝ }
+    ensures { λ r. ⌜ saysFound r ≡ looked (now (octets .entry)) tag ⌝ }
 {
     let verdict = octets::test(Purpose::Reading, octets);
     match verdict {
@@ -102,12 +112,9 @@ fn group_end(octets: &[u8], from: usize) -> usize
 pub fn part(octets: &[u8], place: usize) -> &[u8]
     ensures { λ r. ⌜ now r ≡ partAt (now (octets .entry)) place ⌝ }
 {
-    if place < octets.len() {
-        if octets::is_category(octets[place]) {
-            let end = group_end(octets, place + 1);
-            return &octets[place..end];
-        }
-        return &octets[0..0];
+    if place < octets.len() && octets::is_category(octets[place]) {
+        let end = group_end(octets, place + 1);
+        return &octets[place..end];
     }
     &octets[0..0]
 }
@@ -133,6 +140,7 @@ fn group_of(octets: &[u8], tag: u8) -> &[u8]
     part(octets, place)
 }
 
+// PCM options as far as they count: only beside an access group.
 fn counted(access: &[u8], pcm: &[u8]) -> u8
     ensures { λ r. ⌜ r ≡ pcmCounted (now (access .entry)) (now (pcm .entry)) ⌝ }
 {
@@ -145,24 +153,34 @@ fn counted(access: &[u8], pcm: &[u8]) -> u8
 fn read_offer(octets: &[u8]) -> Offer
     ensures { λ r. ⌜ r ≡ offerOf (now (octets .entry)) ⌝ }
 {
-    let access = group_of(octets, 13);
+    let access = group_of(octets, ACCESS);
     Offer {
         function: options_in(octets),
-        items: items::items_in(group_of(octets, 5)),
-        pcm: counted(access, group_of(octets, 7)),
-        lapm: options_in(group_of(octets, 10)) == 1,
+        items: items::items_in(group_of(octets, items::MODULATION)),
+        pcm: counted(access, group_of(octets, PCM)),
+        lapm: options_in(group_of(octets, PROTOCOL)) == LAPM,
         access: 0 < access.len(),
         access_options: options_in(access),
     }
 }
 
 // Reads a menu.
-pub fn read(octets: &[u8]) -> Menu
+pub fn read(octets: &[u8]) -> ReadMenu
     ensures { λ r. ⌜ saysRead r ≡ menuRead (now (octets .entry)) ⌝ }
 {
     let verdict = octets::test(Purpose::Reading, octets);
     match verdict {
-        Verdict::Refused(r) => Menu::Refused(r),
-        Verdict::Accepted => Menu::Offers(read_offer(octets)),
+        Verdict::Refused(r) => ReadMenu::Refused(r),
+        Verdict::Accepted => ReadMenu::Offers(read_offer(octets)),
     }
+}
+
+// The PCM options of one end that pair with those of the other: b5 with b6, b6 with b5, b7 with b7.
+pub fn paired_options(theirs: u8, ours: u8) -> u8
+    ensures { λ r. ⌜ r ≡ paired theirs ours ⌝ }
+{
+    let b5 = (ours % 2) * (theirs / 2 % 2);
+    let b6 = (ours / 2 % 2) * (theirs % 2);
+    let b7 = (ours / 4 % 2) * (theirs / 4 % 2);
+    b5 + 2 * b6 + 4 * b7
 }

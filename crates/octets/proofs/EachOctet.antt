@@ -4,7 +4,7 @@ use Prim.Native.Nat.{ℕ, _+_, _<_}
 use mathlib.Core.Path.{_≡_}
 use mathlib.Core.Bool.{Bool}
 use lib.Dec.{eqb, eqb→eq}
-use Rattle.laws.specs.Choice.{choose, both, either}
+use Rattle.laws.specs.Logic.{when, both, either}
 use Rattle.laws.specs.Tests.{allBelow}
 use Rattle.laws.proofs.Computed.{below}
 use Rattle.octets.specs.declared.Kind.{Kind}
@@ -15,14 +15,14 @@ use Rattle.octets.specs.Lists.{octetFault, accepts}
 
 -- 1 where the test holds, otherwise 0
 abbrev pub once : Bool → ℕ
-once t = choose t 1 0
+once t = when t 1 0
 
 -- category, extension or bad, and one of them only
 abbrev kinds : ℕ → ℕ
 kinds b = once (category b) + once (extension b) + once (bad b)
 
 pub one-kind : (b : ℕ) → b < 256 → once (category b) + once (extension b) + once (bad b) ≡ 1
-unfolding choose both either allBelow
+unfolding when both either allBelow
 one-kind b h = eqb→eq (kinds b) 1 (below (λ (n : ℕ). eqb (kinds n) 1) 256 tt b h)
 
 -- an octet behind the first is refused exactly where it is not accepted
@@ -30,6 +30,6 @@ abbrev refusedIs : Kind → ℕ → Bool
 refusedIs kind b = eqb (once (accepts kind b)) (once (eqb (octetFault (Writing kind) b) 0))
 
 pub accepts-or-refuses : (kind : Kind) (b : ℕ) → b < 256 → once (accepts kind b) ≡ once (eqb (octetFault (Writing kind) b) 0)
-unfolding choose both either allBelow
+unfolding when both either allBelow
 accepts-or-refuses Ci b h = eqb→eq _ _ (below (refusedIs Ci) 256 tt b h)
 accepts-or-refuses Menu b h = eqb→eq _ _ (below (refusedIs Menu) 256 tt b h)

@@ -1,4 +1,4 @@
--- What the kind of an octet says of its fault.
+-- What the kind of an octet says of its fault: an extension octet has none, a category octet that of its tag; and so when a list is accepted.
 -- Assumes nothing.
 use Prim.Native.Nat.{ℕ, _≤_}
 use mathlib.Core.Path.{_≡_, refl, sym, ap, _∙_}
@@ -7,16 +7,17 @@ use mathlib.Core.List.{List, [], _∷_}
 use borrow.Author.Tests.{eqb-true, eq-eqb, le-ltb}
 use lib.Dec.{eqb}
 use lib.ListN.{length}
-use Rattle.laws.specs.Choice.{choose, both, either}
+use Rattle.laws.specs.Logic.{when, both, either}
 use Rattle.laws.specs.Tests.{every}
-use Rattle.laws.proofs.Chosen.{both-true}
+use Rattle.laws.proofs.Logic.{both-true}
 use Rattle.octets.specs.declared.Purpose.{Purpose}
 use Rattle.octets.specs.Octets.{b3, b4, b5, category, tag, extension}
-use Rattle.octets.specs.Lists.{before, categoryFault, octetFault, firstFault, listFault}
+use Rattle.refusals.specs.Refusals.{before}
+use Rattle.octets.specs.Lists.{categoryFault, octetFault, firstFault, listFault}
 
 module _ (p : Purpose) where
   extension-fine : (b : ℕ) → extension b ≡ true → octetFault p b ≡ 0
-  unfolding choose both either
+  unfolding when both either
   extension-fine b h =
       let first = both-true _ _ h in
       let rest = both-true _ _ (first .1) in
@@ -26,16 +27,16 @@ module _ (p : Purpose) where
       simp (one, low, high)
 
   pub extensions-fine : (e : List ℕ) → every extension e ≡ true → firstFault p e ≡ 0
-  unfolding firstFault every choose
+  unfolding firstFault every when
   extensions-fine [] h = refl
   extensions-fine (b ∷ e) h = let here = both-true _ _ h in simp (extension-fine b (here .0), extensions-fine e (here .1))
 
   category-fine : (b : ℕ) → category b ≡ true → octetFault p b ≡ categoryFault p (tag b)
-  unfolding choose both
+  unfolding when both
   category-fine b c = let none : b4 b ≡ 0 = eqb-true _ _ c in simp none
 
-  nothing-behind : (f : ℕ) (t : Bool) → eqb f 0 ≡ t → choose t 0 f ≡ f
-  unfolding choose
+  nothing-behind : (f : ℕ) (t : Bool) → eqb f 0 ≡ t → when t 0 f ≡ f
+  unfolding when
   nothing-behind f true e = sym (eqb-true f 0 e)
   nothing-behind f false e = refl
 
@@ -47,5 +48,5 @@ module _ (p : Purpose) where
 
   -- a list is accepted where it is short, opens with the call function, and nothing behind that is at fault
   pub accepted-by : (b : ℕ) (bs : List ℕ) → length (b ∷ bs) ≤ 64 → category b ≡ true → tag b ≡ 1 → firstFault p bs ≡ 0 → listFault p (b ∷ bs) ≡ 0
-  unfolding choose both
+  unfolding when both
   accepted-by b bs short c t f = simp (le-ltb 64 (length (b ∷ bs)) short, c, eq-eqb (tag b) 1 t, f)

@@ -1,5 +1,4 @@
-pub mod Numbers
 pub mod EachOctet
 pub mod Lists
-pub mod Outcomes
 pub mod Fine
+pub mod Made

@@ -1,4 +1,2 @@
-pub mod Refusals
 pub mod Octets
 pub mod Lists
-pub mod Lent

@@ -1,28 +1,19 @@
-// The bits of an octet, the kinds of octets, the refusals with their numbers, and the tests of an octet list.
+// The bits of an octet, the kinds of octets, and the tests of an octet list.
+use refusals::Refusal;
+use refusals::Verdict;
 ghost use mathlib.Core.Path.{_≡_};
 ghost use Prim.Native.Nat.{_+_};
 ghost use lib.ListN.{drop};
 ghost use Rattle.laws.specs.Tests.{sameList};
-ghost use Rattle.octets.specs.Refusals.{number, fault};
-ghost use Rattle.octets.specs.Octets.{category, tag, options, bad};
-ghost use Rattle.octets.specs.Lists.{categoryFault, octetFault, firstFault, opens, listFault, groupEnds};
+ghost use Rattle.refusals.specs.Refusals.{fault};
+ghost use Rattle.octets.specs.Octets.{category, tag, options, categoryOctet, bad};
+ghost use Rattle.octets.specs.Lists.{categoryFault, octetFault, firstFault, opens, listFault, readable, groupEnds};
 
-// What document 01 refuses, in the order of its numbers.
-pub enum Refusal {
-    NotABit,
-    StopBitZero,
-    BadOctet,
-    TooManyOctets,
-    NoCallFunction,
-    ShortBuffer,
-    AfterOver,
-    Clock,
-    WrongEvent,
-    BadRecord,
-    NotOffered,
-    WrongCategory,
-    CutShort,
-}
+// The tag of the call function, with which every message opens.
+pub const CALL_FUNCTION: u8 = 1;
+
+// What a message has at most.
+const MOST_OCTETS: usize = 64;
 
 // The two kinds of messages with a preamble.
 pub enum Kind {
@@ -34,38 +25,6 @@ pub enum Kind {
 pub enum Purpose {
     Reading,
     Writing(Kind),
-}
-
-pub enum Verdict {
-    Accepted,
-    Refused(Refusal),
-}
-
-// What a call that writes into a lent buffer answers: how many were written, bits or octets, or why nothing was.
-pub enum Wrote {
-    Count(usize),
-    Refused(Refusal),
-}
-
-// The number that document 01 gives a refusal.
-pub fn refusal_number(r: Refusal) -> u8
-    ensures { λ n. ⌜ n ≡ number r ⌝ }
-{
-    match r {
-        Refusal::NotABit => 1,
-        Refusal::StopBitZero => 2,
-        Refusal::BadOctet => 3,
-        Refusal::TooManyOctets => 4,
-        Refusal::NoCallFunction => 5,
-        Refusal::ShortBuffer => 6,
-        Refusal::AfterOver => 7,
-        Refusal::Clock => 8,
-        Refusal::WrongEvent => 9,
-        Refusal::BadRecord => 10,
-        Refusal::NotOffered => 11,
-        Refusal::WrongCategory => 12,
-        Refusal::CutShort => 13,
-    }
 }
 
 pub fn is_category(b: u8) -> bool
@@ -86,18 +45,17 @@ pub fn options_of(b: u8) -> u8
     b / 32 % 8
 }
 
+// The category octet with this tag and these options, of which an octet holds the lowest four bits and the lowest three.
+pub fn category_octet(tag: u8, options: u8) -> u8
+    ensures { λ r. ⌜ r ≡ categoryOctet tag options ⌝ }
+{
+    tag % 16 + 32 * (options % 8)
+}
+
 pub fn is_bad(b: u8) -> bool
     ensures { λ r. ⌜ r ≡ bad b ⌝ }
 {
-    if b / 16 % 2 == 1 {
-        if b / 8 % 2 == 1 {
-            true
-        } else {
-            b / 32 % 2 == 1
-        }
-    } else {
-        false
-    }
+    b / 16 % 2 == 1 && (b / 8 % 2 == 1 || b / 32 % 2 == 1)
 }
 
 // A later category octet with this tag.
@@ -147,24 +105,18 @@ fn test_rest(purpose: Purpose, octets: &[u8]) -> Verdict
     Verdict::Accepted
 }
 
+// The first octet: the call function's.
 fn test_first(octets: &[u8]) -> bool
     ensures { λ r. ⌜ r ≡ opens (now (octets .entry)) ⌝ }
 {
-    if octets.len() == 0 {
-        return false;
-    }
-    let b = octets[0];
-    if is_category(b) {
-        return tag_of(b) == 1;
-    }
-    false
+    0 < octets.len() && (is_category(octets[0]) && tag_of(octets[0]) == CALL_FUNCTION)
 }
 
 // Whether reading or writing the octets is refused: 4, 5, then 3 or 12 at the first bad octet.
 pub fn test(purpose: Purpose, octets: &[u8]) -> Verdict
     ensures { λ r. ⌜ fault r ≡ listFault purpose (now (octets .entry)) ⌝ }
 {
-    if 64 < octets.len() {
+    if MOST_OCTETS < octets.len() {
         return Verdict::Refused(Refusal::TooManyOctets);
     }
     if test_first(octets) {
@@ -173,15 +125,22 @@ pub fn test(purpose: Purpose, octets: &[u8]) -> Verdict
     Verdict::Refused(Refusal::NoCallFunction)
 }
 
+// Whether reading the octets gives no refusal.
+pub fn can_read(octets: &[u8]) -> bool
+    ensures { λ r. ⌜ r ≡ readable (now (octets .entry)) ⌝ }
+{
+    let verdict = test(Purpose::Reading, octets);
+    match verdict {
+        Verdict::Accepted => true,
+        Verdict::Refused(_) => false,
+    }
+}
+
 // Whether a group that stands before this place ends there: no octet follows, or one with b4 = 0.
 pub fn group_ends(octets: &[u8], i: usize) -> bool
     ensures { λ r. ⌜ r ≡ groupEnds (now (octets .entry)) i ⌝ }
 {
-    if i < octets.len() {
-        is_category(octets[i])
-    } else {
-        true
-    }
+    octets.len() <= i || is_category(octets[i])
 }
 
 // Whether two octet lists are the same.

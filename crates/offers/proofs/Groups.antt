@@ -1,4 +1,4 @@
--- Groups one behind the other: the reader finds each by its tag.
+-- Groups one behind the other: the reader finds each by its tag, since each begins with a category octet and goes on with extension octets.
 -- Assumes nothing.
 use Prim.Native.Nat.{ℕ, _<_, _+_, _*_, _/_, _%_}
 use native.Mathlib.Omega.{arith}
@@ -7,16 +7,18 @@ use mathlib.Core.Bool.{Bool, true, false}
 use mathlib.Core.List.{List, [], _∷_, _++_}
 use borrow.Author.Tests.{eq-eqb}
 use lib.Dec.{eqb, lit<}
-use Rattle.laws.specs.Choice.{choose, both}
+use Rattle.laws.specs.Logic.{when, both}
+use Rattle.laws.specs.Joined.{joined}
 use Rattle.laws.specs.Tests.{every}
-use Rattle.octets.specs.Octets.{b3, b4, b5, category, tag, options, extension}
+use Rattle.octets.specs.Octets.{b3, b4, b5, category, categoryOctet, extension}
 use Rattle.octets.specs.Lists.{groupEnds}
 use Rattle.octets.proofs.Lists.{group-starts}
-use Rattle.items.specs.Items.{modulationOctet}
-use Rattle.menus.specs.Groups.{opensGroup}
+use Rattle.octets.proofs.Made.{category-there, tag-there}
+use Rattle.items.specs.Items.{modulation, noItems, modulationOctet}
 use Rattle.items.proofs.Places.{octet-0, octet-1, octet-2}
+use Rattle.menus.specs.Groups.{opensGroup}
 use Rattle.menus.proofs.Joined.{groupFrom, orElse, group-joined, lone-group}
-use Rattle.offers.specs.Making.{categoryOctet, oneOctet, modulationGroup, joined}
+use Rattle.offers.specs.Making.{oneOctet, modulationGroup}
 
 -- no octets, or a category octet with extension octets
 abbrev pub Group : List ℕ → Type 0
@@ -30,7 +32,7 @@ Groups (group ∷ groups) = Group group × Groups groups
 -- a group, if it has the tag
 abbrev pub ofTag : ℕ → List ℕ → List ℕ
 ofTag t [] = []
-ofTag t (b ∷ e) = choose (opensGroup t b) (b ∷ e) []
+ofTag t (b ∷ e) = when (opensGroup t b) (b ∷ e) []
 
 -- the first group that has the tag
 abbrev pub firstOf : ℕ → List (List ℕ) → List ℕ
@@ -38,7 +40,7 @@ firstOf t [] = []
 firstOf t (group ∷ groups) = orElse (ofTag t group) (firstOf t groups)
 
 joined-ends : (groups : List (List ℕ)) → Groups groups → groupEnds (joined groups) 0 ≡ true
-unfolding joined choose
+unfolding joined when
 joined-ends [] h = refl
 joined-ends ([] ∷ groups) h = joined-ends groups (h .1)
 joined-ends ((b ∷ e) ∷ groups) h = group-starts b (e ++ joined groups) (h .0 .0)
@@ -56,56 +58,45 @@ group-found t (group ∷ groups) h =
     ∙ ap (λ (l : List ℕ). orElse l (groupFrom t (joined groups))) (alone t group (h .0))
     ∙ ap (λ (l : List ℕ). orElse (ofTag t group) l) (group-found t groups (h .1))
 
--- category octets
-module _ (t o : ℕ) (h : t < 16) where
-  pub category-there : category (categoryOctet t o) ≡ true
-  category-there = eq-eqb (b4 (t + 32 * o)) 0 (omega (arith, h))
-
-  pub tag-there : tag (categoryOctet t o) ≡ t
-  tag-there = omega (arith, h)
-
-  pub options-there : o < 8 → options (categoryOctet t o) ≡ o
-  options-there k = omega (arith, h, k)
-
-  opens-there : (s : ℕ) → opensGroup s (categoryOctet t o) ≡ eqb t s
-  unfolding both
-  opens-there s = simp (category-there, tag-there)
-
 -- a group of one octet
-none-chosen : (b : Bool) → _≡_ {A = List ℕ} [] (choose b [] [])
-unfolding choose
+none-chosen : (b : Bool) → _≡_ {A = List ℕ} [] (when b [] [])
+unfolding when
 none-chosen true = refl
 none-chosen false = refl
 
-module _ (t o : ℕ) (h : t < 16) where
+module _ (t o : ℕ) where
   pub one-group : (there : Bool) → Group (oneOctet there (categoryOctet t o))
-  unfolding choose every
-  one-group true = (category-there t o h, refl)
+  unfolding when every
+  one-group true = (category-there t o, refl)
   one-group false = tt
 
-  pub one-of-tag : (there : Bool) (s : ℕ) → ofTag s (oneOctet there (categoryOctet t o)) ≡ choose (eqb t s) (oneOctet there (categoryOctet t o)) []
-  unfolding choose
-  one-of-tag true s = ap (λ (b : Bool). choose b (categoryOctet t o ∷ []) []) (opens-there t o h s)
-  one-of-tag false s = none-chosen (eqb t s)
+  opens-there : t < 16 → (s : ℕ) → opensGroup s (categoryOctet t o) ≡ eqb t s
+  unfolding both
+  opens-there h s = simp (category-there t o, tag-there t o h)
+
+  pub one-of-tag : t < 16 → (there : Bool) (s : ℕ) → ofTag s (oneOctet there (categoryOctet t o)) ≡ when (eqb t s) (oneOctet there (categoryOctet t o)) []
+  unfolding when
+  one-of-tag h true s = ap (λ (b : Bool). when b (categoryOctet t o ∷ []) []) (opens-there h s)
+  one-of-tag h false s = none-chosen (eqb t s)
 
 -- the modulation group
-extension-there : (low high : ℕ) → low < 8 → extension (16 + low + 64 * high) ≡ true
+extension-there : (low high : ℕ) → low < 8 → extension (noItems + low + 64 * high) ≡ true
 unfolding both
 extension-there low high h =
-    let n = 16 + low + 64 * high in
+    let n = noItems + low + 64 * high in
     simp (eq-eqb (b4 n) 1 (omega (arith, h)), eq-eqb (b3 n) 0 (omega (arith, h)), eq-eqb (b5 n) 0 (omega (arith, h)))
 
 module _ (items : ℕ) where
-  extension-octet : (k five : ℕ) → modulationOctet items k ≡ 16 + five % 8 + 64 * (five / 8 % 4) → extension (modulationOctet items k) ≡ true
+  extension-octet : (k five : ℕ) → modulationOctet items k ≡ noItems + five % 8 + 64 * (five / 8 % 4) → extension (modulationOctet items k) ≡ true
   extension-octet k five e = rw e (extension-there (five % 8) (five / 8 % 4) (omega arith))
 
   pub modulation-group : Group (modulationGroup items)
   unfolding modulationGroup every both
-  modulation-group = (rw (octet-0 items) (category-there 5 (items % 8) (lit< tt)), simp (extension-octet 1 (items / 8) (octet-1 items), extension-octet 2 (items / 256) (octet-2 items)))
+  modulation-group = (rw (octet-0 items) (category-there modulation items), simp (extension-octet 1 (items / 8) (octet-1 items), extension-octet 2 (items / 256) (octet-2 items)))
 
-  pub modulation-of-tag : (s : ℕ) → ofTag s (modulationGroup items) ≡ choose (eqb 5 s) (modulationGroup items) []
+  pub modulation-of-tag : (s : ℕ) → ofTag s (modulationGroup items) ≡ when (eqb modulation s) (modulationGroup items) []
   unfolding modulationGroup
-  modulation-of-tag s = ap (λ (b : Bool). choose b (modulationGroup items) []) (ap (λ (b : ℕ). opensGroup s b) (octet-0 items) ∙ opens-there 5 (items % 8) (lit< tt) s)
+  modulation-of-tag s = ap (λ (b : Bool). when b (modulationGroup items) []) (ap (λ (b : ℕ). opensGroup s b) (octet-0 items) ∙ opens-there modulation items (lit< tt) s)
 
 pub or-nothing : (group : List ℕ) → orElse group [] ≡ group
 or-nothing [] = refl

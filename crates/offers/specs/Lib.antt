@@ -1,2 +1,3 @@
+pub mod Offering
 pub mod Making
-pub mod Parts
+pub mod Inner

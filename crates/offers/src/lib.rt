@@ -1,23 +1,34 @@
-// Offers: the menus we make, CM and JM, and the call function octet.
-use menus::Menu;
+// Menus we make: what CM and JM offer, both as octets, and the call function octet.
+use items::Item;
 use menus::Offer;
-use octets::Purpose;
-use octets::Refusal;
-use octets::Verdict;
-use octets::Wrote;
+use menus::ReadMenu;
+use octets::CALL_FUNCTION;
+use records::Modes;
 use records::Record;
+use refusals::Refusal;
+use refusals::Wrote;
 ghost use mathlib.Core.Path.{_≡_};
 ghost use mathlib.Core.Bool.{true, false};
-ghost use Prim.Native.Nat.{_+_, _*_, _<_, _≤_};
 ghost use mathlib.Core.List.{[]};
+ghost use Prim.Native.Nat.{_<_, _≤_};
 ghost use lib.ListN.{length, take, getD};
-ghost use Rattle.laws.specs.Front.{front};
-ghost use Rattle.octets.specs.Lent.{roomFault, put, Meets};
+ghost use Rattle.laws.specs.Logic.{when};
+ghost use Rattle.refusals.specs.Lent.{roomFault, put, Meets};
+ghost use Rattle.octets.specs.Octets.{callFunctionTag, categoryOctet};
+ghost use Rattle.octets.specs.Lists.{readable};
 ghost use Rattle.menus.specs.Offer.{offerOf};
 ghost use Rattle.records.specs.Record.{badRecord};
-ghost use Rattle.drafts.specs.Drafts.{jmFunction};
-ghost use Rattle.offers.specs.Making.{categoryOctet, oneOctet, modulationGroup, groupsOf, menuOf, readable, sourceOf, callFunction, madeCm, madeJm};
-ghost use Rattle.offers.specs.Parts.{WritesGroup, Says};
+ghost use Rattle.offers.specs.Offering.{bit, withItem0, accessOptions, cmOfferOf, withItem1, jmOfferOf, jmOffer};
+ghost use Rattle.offers.specs.Making.{oneOctet, modulationGroup, groupsOf, menuOf, sourceOf, callFunction, madeCm, madeJm};
+ghost use Rattle.offers.specs.Inner.{Writes};
+
+// The groups of a menu, in their order: call function, modulation, PCM, protocol, access.
+const GROUPS: u8 = 5;
+
+// The octets that every menu has, the call function's and the modulation group's; and those of one with all groups.
+const SHORTEST_MENU: usize = 4;
+
+const LONGEST_MENU: usize = 7;
 
 // Where the call function octet of a JM stands: in the heard CM, in our own one, or nowhere.
 pub enum Source {
@@ -26,17 +37,105 @@ pub enum Source {
     Own,
 }
 
-fn category_octet(tag: u8, options: u8) -> u8
-    requires { ⌜ (tag < 16) × (options < 8) ⌝ }
-    ensures { λ r. ⌜ r ≡ categoryOctet tag options ⌝ }
+// A test as a bit.
+fn bit_of(there: bool) -> u8
+    ensures { λ r. ⌜ (r ≡ bit there) × (r < 2) ⌝ }
 {
-    tag + 32 * options
+    if there { 1 } else { 0 }
+}
+
+// Item 0 as it is told, and the other items of the set.
+fn with_item_0(there: bool, items: u16) -> u16
+    ensures { λ r. ⌜ r ≡ withItem0 there items ⌝ }
+{
+    items / 2 * 2 + bit_of(there) as u16
+}
+
+// PCM b5 and b6 only where item 1 is shared.
+fn with_item_1(shared: bool, options: u8) -> u8
+    ensures { λ r. ⌜ r ≡ withItem1 shared options ⌝ }
+{
+    if shared {
+        return options;
+    }
+    options / 4 * 4
+}
+
+// The options of an access group, b5 lowest, or 0 where it is not there.
+fn access_options(there: bool, caller: u8, answerer: u8, digital: u8) -> u8
+    requires { ⌜ caller < 2 ⌝ }
+    requires { ⌜ answerer < 2 ⌝ }
+    requires { ⌜ digital < 2 ⌝ }
+    ensures { λ r. ⌜ r ≡ accessOptions there caller answerer digital ⌝ }
+{
+    if there {
+        return caller + 2 * answerer + 4 * digital;
+    }
+    0
+}
+
+// What our CM offers for a function with these modes in use.
+fn cm_offer(own: Record, function: u8, modes: Modes) -> Offer
+    ensures { λ r. ⌜ r ≡ cmOfferOf own function modes ⌝ }
+{
+    let pcm = modes.pcm;
+    let there = own.access == 1 || 0 < pcm;
+    Offer {
+        function: function,
+        items: with_item_0(0 < pcm, modes.items),
+        pcm: pcm,
+        lapm: own.lapm == 1,
+        access: there,
+        access_options: access_options(
+            there,
+            bit_of(own.cellular == 1),
+            0,
+            bit_of(own.digital == 1),
+        ),
+    }
+}
+
+// The function of a JM: the asked one where it is available, otherwise the home function.
+fn answered_function(available: bool, asked: u8, home: u8) -> u8
+    ensures { λ r. ⌜ r ≡ when available asked home ⌝ }
+{
+    if available {
+        return asked;
+    }
+    home
+}
+
+// What our JM offers for what a heard CM offers, with the modes in use for its function.
+fn jm_offer(own: Record, cm: Offer, modes: Modes) -> Offer
+    ensures { λ r. ⌜ r ≡ jmOfferOf own cm modes ⌝ }
+{
+    let shared = modes.items & cm.items;
+    let pcm = with_item_1(
+        items::in_set(shared, Item(1)),
+        menus::paired_options(cm.pcm, modes.pcm),
+    );
+    let caller = cm.access_options % 2;
+    let there = own.access == 1 || (caller == 1 || 0 < pcm);
+    let lapm = cm.lapm && own.lapm == 1;
+    Offer {
+        function: answered_function(modes.available == 1, cm.function, own.home),
+        items: with_item_0(0 < pcm, shared),
+        pcm: pcm,
+        lapm: lapm,
+        access: there,
+        access_options: access_options(
+            there,
+            caller,
+            bit_of(own.cellular == 1),
+            bit_of(own.digital == 1),
+        ),
+    }
 }
 
 // A group of one octet, if it is there. Answers how many octets that is.
 fn write_octet(out: &mut [u8], there: bool, octet: u8) -> usize
     requires { ⌜ length (oneOctet there octet) ≤ length (now out) ⌝ }
-    ensures { λ r. ⌜ WritesGroup (oneOctet there octet) (now (out .entry)) r (now (out .exit)) ⌝ }
+    ensures { λ r. ⌜ Writes (oneOctet there octet) (now (out .entry)) r (now (out .exit)) ⌝ }
 {
     if there {
         out[0] = octet;
@@ -47,7 +146,7 @@ fn write_octet(out: &mut [u8], there: bool, octet: u8) -> usize
 
 fn write_modulation(out: &mut [u8], items: u16) -> usize
     requires { ⌜ 3 ≤ length (now out) ⌝ }
-    ensures { λ r. ⌜ WritesGroup (modulationGroup items) (now (out .entry)) r (now (out .exit)) ⌝ }
+    ensures { λ r. ⌜ Writes (modulationGroup items) (now (out .entry)) r (now (out .exit)) ⌝ }
 {
     out[0] = items::modulation_octet(items, 0);
     out[1] = items::modulation_octet(items, 1);
@@ -57,8 +156,10 @@ fn write_modulation(out: &mut [u8], items: u16) -> usize
 
 // A group of a menu, the call function's first. Answers how many octets that is.
 fn write_group(out: &mut [u8], call: u8, offer: Offer, k: u8) -> usize
-    requires { ⌜ Says call offer × (k < 5) × (length (getD (groupsOf offer) k []) ≤ length (now out)) ⌝ }
-    ensures { λ r. ⌜ WritesGroup (getD (groupsOf offer) k []) (now (out .entry)) r (now (out .exit)) ⌝ }
+    requires { ⌜ call ≡ categoryOctet callFunctionTag (offer .function) ⌝ }
+    requires { ⌜ k < 5 ⌝ }
+    requires { ⌜ length (getD (groupsOf offer) k []) ≤ length (now out) ⌝ }
+    ensures { λ r. ⌜ Writes (getD (groupsOf offer) k []) (now (out .entry)) r (now (out .exit)) ⌝ }
 {
     if k == 0 {
         return write_octet(out, true, call);
@@ -67,47 +168,50 @@ fn write_group(out: &mut [u8], call: u8, offer: Offer, k: u8) -> usize
         return write_modulation(out, offer.items);
     }
     if k == 2 {
-        return write_octet(out, 0 < offer.pcm, category_octet(7, offer.pcm));
+        let octet = octets::category_octet(menus::PCM, offer.pcm);
+        return write_octet(out, 0 < offer.pcm, octet);
     }
     if k == 3 {
-        return write_octet(out, offer.lapm, category_octet(10, 1));
+        let octet = octets::category_octet(menus::PROTOCOL, menus::LAPM);
+        return write_octet(out, offer.lapm, octet);
     }
-    write_octet(out, offer.access, category_octet(13, offer.access_options))
+    let octet = octets::category_octet(menus::ACCESS, offer.access_options);
+    write_octet(out, offer.access, octet)
 }
 
-// The menu that says an offer, group by group, each into what is left behind the group before it.
-fn write_menu(out: &mut [u8], call: u8, offer: Offer)
-    requires { ⌜ Says call offer × (length (menuOf offer) ≤ length (now out)) ⌝ }
-    ensures { λ _. ⌜ now (out .exit) ≡ front (menuOf offer) (now (out .entry)) ⌝ }
+// The menu that says an offer, group by group, each into what is left behind the group before it. Answers how many octets it has.
+fn write_menu(out: &mut [u8], call: u8, offer: Offer) -> usize
+    requires { ⌜ call ≡ categoryOctet callFunctionTag (offer .function) ⌝ }
+    requires { ⌜ length (menuOf offer) ≤ length (now out) ⌝ }
+    ensures { λ r. ⌜ Writes (menuOf offer) (now (out .entry)) r (now (out .exit)) ⌝ }
 {
     let mut at: usize = 0;
     let mut k: u8 = 0;
-    while k < 5 {
+    while k < GROUPS {
         at += write_group(&mut out[at..], call, offer, k);
         k += 1;
     }
+    at
 }
 
 fn menu_size(offer: Offer) -> usize
     ensures { λ r. ⌜ r ≡ length (menuOf offer) ⌝ }
 {
-    4
-        + drafts::bit_of(0 < offer.pcm) as usize
-        + drafts::bit_of(offer.lapm) as usize
-        + drafts::bit_of(offer.access) as usize
+    SHORTEST_MENU
+        + bit_of(0 < offer.pcm) as usize
+        + bit_of(offer.lapm) as usize
+        + bit_of(offer.access) as usize
 }
 
 // The menu that says an offer, where there is room for it.
 fn put_menu(out: &mut [u8], call: u8, offer: Offer) -> Wrote
-    requires { ⌜ Says call offer ⌝ }
+    requires { ⌜ call ≡ categoryOctet callFunctionTag (offer .function) ⌝ }
     ensures { λ r. ⌜ Meets (put (roomFault (menuOf offer) (now (out .entry))) (menuOf offer) (now (out .entry))) r (now (out .exit)) ⌝ }
 {
-    let size = menu_size(offer);
-    if out.len() < size {
+    if out.len() < menu_size(offer) {
         return Wrote::Refused(Refusal::ShortBuffer);
     }
-    write_menu(out, call, offer);
-    Wrote::Count(size)
+    Wrote::Count(write_menu(out, call, offer))
 }
 
 // Makes the CM for a function, and answers how many octets it has.
@@ -119,34 +223,21 @@ pub fn make_cm(own: Record, function: u8, out: &mut [u8]) -> Wrote
     }
     let modes = records::in_use(own, function);
     if modes.available == 1 {
-        return put_menu(
-            out,
-            category_octet(1, function),
-            drafts::cm_offer(own, function, modes),
-        );
+        let call = octets::category_octet(CALL_FUNCTION, function);
+        return put_menu(out, call, cm_offer(own, function, modes));
     }
     Wrote::Refused(Refusal::NoCallFunction)
 }
 
-fn can_read(octets: &[u8]) -> bool
-    ensures { λ r. ⌜ r ≡ readable (now (octets .entry)) ⌝ }
-{
-    let verdict = octets::test(Purpose::Reading, octets);
-    match verdict {
-        Verdict::Accepted => true,
-        Verdict::Refused(_) => false,
-    }
-}
-
 // In which of two menus the call function octet of a JM stands.
-pub fn call_source(own: Record, heard: &[u8], own_cm: &[u8]) -> Source
-    ensures { λ r. ⌜ r ≡ sourceOf own (now (heard .entry)) (now («own_cm» .entry)) ⌝ }
+pub fn call_source(own: Record, heard_cm: &[u8], own_cm: &[u8]) -> Source
+    ensures { λ r. ⌜ r ≡ sourceOf own (now («heard_cm» .entry)) (now («own_cm» .entry)) ⌝ }
 {
     if records::bad(own) {
         return Source::Neither;
     }
-    if drafts::both_of(can_read(heard), can_read(own_cm)) {
-        let modes = records::in_use(own, menus::options_in(heard));
+    if octets::can_read(heard_cm) && octets::can_read(own_cm) {
+        let modes = records::in_use(own, menus::options_in(heard_cm));
         if modes.available == 1 {
             return Source::Heard;
         }
@@ -166,48 +257,46 @@ fn first_of(octets: &[u8]) -> &[u8]
 }
 
 // The call function octet of a JM, as a part of one of two lent menus: the heard CM, or our own one for the home function.
-pub fn call_function<'a>(own: Record, heard: &'a [u8], own_cm: &'a [u8]) -> &'a [u8]
-    ensures { λ r. ⌜ now r ≡ callFunction own (now (heard .entry)) (now («own_cm» .entry)) ⌝ }
+pub fn call_function<'a>(own: Record, heard_cm: &'a [u8], own_cm: &'a [u8]) -> &'a [u8]
+    ensures { λ r. ⌜ now r ≡ callFunction own (now («heard_cm» .entry)) (now («own_cm» .entry)) ⌝ }
 {
-    let source = call_source(own, heard, own_cm);
+    let source = call_source(own, heard_cm, own_cm);
     match source {
-        Source::Heard => first_of(heard),
+        Source::Heard => first_of(heard_cm),
         Source::Own => first_of(own_cm),
-        Source::Neither => &heard[0..0],
+        Source::Neither => &heard_cm[0..0],
     }
 }
 
 // The call function octet of the JM for a heard CM: our own CM for the home function is made to find it there.
-fn answer_octet(own: Record, heard: &[u8]) -> u8
-    requires { ⌜ (badRecord own ≡ false) × (readable (now heard) ≡ true) ⌝ }
-    ensures { λ r. ⌜ r ≡ categoryOctet 1 (jmFunction own (offerOf (now (heard .entry)))) ⌝ }
+fn answer_octet(own: Record, heard_cm: &[u8]) -> u8
+    requires { ⌜ badRecord own ≡ false ⌝ }
+    requires { ⌜ readable (now «heard_cm») ≡ true ⌝ }
+    ensures { λ r. ⌜ r ≡ categoryOctet callFunctionTag (jmOffer own (offerOf (now («heard_cm» .entry))) .function) ⌝ }
 {
     let home = own.home;
-    let offer = drafts::cm_offer(own, home, records::in_use(own, home));
-    let mut menu = [0u8; 7];
-    write_menu(&mut menu, category_octet(1, home), offer);
-    let size = menu_size(offer);
-    let part = call_function(own, heard, &menu[0..size]);
+    let call = octets::category_octet(CALL_FUNCTION, home);
+    let offer = cm_offer(own, home, records::in_use(own, home));
+    let mut own_cm = [0u8; LONGEST_MENU];
+    let size = write_menu(&mut own_cm, call, offer);
+    let part = call_function(own, heard_cm, &own_cm[0..size]);
     part[0]
 }
 
 // Makes the JM for a heard CM, and answers how many octets it has.
-pub fn make_jm(own: Record, heard: &[u8], out: &mut [u8]) -> Wrote
-    ensures { λ r. ⌜ Meets (madeJm own (now (heard .entry)) (now (out .entry))) r (now (out .exit)) ⌝ }
+pub fn make_jm(own: Record, heard_cm: &[u8], out: &mut [u8]) -> Wrote
+    ensures { λ r. ⌜ Meets (madeJm own (now («heard_cm» .entry)) (now (out .entry))) r (now (out .exit)) ⌝ }
 {
     if records::bad(own) {
         return Wrote::Refused(Refusal::BadRecord);
     }
-    let menu = menus::read(heard);
+    let menu = menus::read(heard_cm);
     match menu {
-        Menu::Refused(r) => Wrote::Refused(r),
-        Menu::Offers(theirs) => {
+        ReadMenu::Refused(r) => Wrote::Refused(r),
+        ReadMenu::Offers(theirs) => {
             let modes = records::in_use(own, theirs.function);
-            put_menu(
-                out,
-                answer_octet(own, heard),
-                drafts::jm_offer(own, theirs, modes),
-            )
+            let call = answer_octet(own, heard_cm);
+            put_menu(out, call, jm_offer(own, theirs, modes))
         }
     }
 }

@@ -5,7 +5,7 @@ use mathlib.Core.List.{List, [], _∷_}
 use lib.Dec.{ltb}
 use lib.ListN.{length, set}
 use Rattle.io.specs.Digits.{digits, Fewest}
-use Rattle.laws.specs.Choice.{choose}
+use Rattle.laws.specs.Logic.{when}
 
 -- a lent buffer, and the place of the next byte in it
 pub record Page : Type 0 where
@@ -19,7 +19,7 @@ page buffer at = record { buffer = buffer; at = at }
 -- a byte at the place, where that is within the buffer; every other byte keeps its value
 abbrev pub struck : Page → ℕ → Page
 struck p b =
-    choose (ltb (p .at) (length (p .buffer)))
+    when (ltb (p .at) (length (p .buffer)))
     (page (set (p .buffer) (p .at) b) (p .at + 1))
     p
 
@@ -30,7 +30,7 @@ typed p (b ∷ text) = typed (struck p b) text
 
 -- a hexadecimal digit in upper case, in ASCII
 abbrev pub hexDigit : ℕ → ℕ
-hexDigit n = choose (ltb n 10) (48 + n) (55 + n)
+hexDigit n = when (ltb n 10) (48 + n) (55 + n)
 
 -- an octet as two hexadecimal digits
 abbrev pub hexOctet : ℕ → List ℕ

@@ -4,6 +4,11 @@ ghost use Prim.Native.Nat.{_≤_};
 ghost use mathlib.Core.Path.{_≡_};
 ghost use Rattle.printing.specs.Page.{page, struck, typed, hexDigit, hexOctet, TypedDecimal};
 
+// Characters of ASCII: the digit 0, and the one that stands ten before A.
+const DIGIT_0: u8 = 48;
+
+const TEN_BEFORE_A: u8 = 55;
+
 // A byte.
 fn put(out: &mut [u8], at: usize, b: u8) -> usize
     ensures { λ r. ⌜ page (now (out .exit)) r ≡ struck (page (now (out .entry)) at) b ⌝ }
@@ -34,9 +39,9 @@ fn hex_digit(n: u8) -> u8
     ensures { λ r. ⌜ r ≡ hexDigit n ⌝ }
 {
     if n < 10 {
-        return 48 + n;
+        return DIGIT_0 + n;
     }
-    55 + n
+    TEN_BEFORE_A + n
 }
 
 // An octet in two hexadecimal digits.
@@ -52,6 +57,6 @@ pub fn put_decimal(out: &mut [u8], at: usize, number: u64) -> usize
     ensures { λ r. ⌜ TypedDecimal (page (now (out .entry)) at) number (page (now (out .exit)) r) ⌝ }
 {
     let mut digits = [0u8; 20];
-    let k = io::decimal(number, &mut digits);
-    put_text(out, at, &digits[..k])
+    let count = io::decimal(number, &mut digits);
+    put_text(out, at, &digits[..count])
 }

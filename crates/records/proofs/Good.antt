@@ -1,4 +1,4 @@
--- What a record that is not bad has for every function.
+-- What a record that is not bad has for every function: each test that makes a record bad fails, and leaves a fact.
 -- Assumes nothing.
 use Prim.Native.Nat.{ℕ, zero, suc, _<_, _≤_, _%_, _/_}
 use native.Mathlib.Omega.{arith}
@@ -8,8 +8,8 @@ use mathlib.Core.List.{List, [], _∷_}
 use borrow.Author.Tests.{ltb-true, ltb-false, leb-false, eqb-true, eqb-false}
 use lib.Dec.{ltb, eqb}
 use lib.ListN.{length, getD}
-use Rattle.laws.specs.Choice.{choose, either}
-use Rattle.laws.proofs.Chosen.{chosen, either-false, clash}
+use Rattle.laws.specs.Logic.{when, either}
+use Rattle.laws.proofs.Logic.{either-way, either-false, clash}
 use Rattle.records.specs.declared.Modes.{Modes}
 use Rattle.records.specs.declared.Record.{Record}
 use Rattle.records.specs.Record.{flag, noModes, modesAt, inUse, lacksItem1, badModes, anyBad, badRecord}
@@ -17,18 +17,18 @@ use Rattle.records.proofs.Functions.{modes-past}
 
 -- no function of it is bad
 each-good : (functions : List Modes) (n : ℕ) → anyBad functions ≡ false → badModes (getD functions n noModes) ≡ false
-unfolding anyBad choose either
+unfolding anyBad when either
 each-good [] n h = refl
 each-good (modes ∷ rest) zero h = either-false (badModes modes) (anyBad rest) h .0
 each-good (modes ∷ rest) (suc n) h = each-good rest n (either-false (badModes modes) (anyBad rest) h .1)
 
 used-good : (functions : List Modes) (f : ℕ) → anyBad functions ≡ false → badModes (modesAt functions f) ≡ false
-unfolding modesAt choose either
+unfolding modesAt when either
 used-good functions zero h = refl
-used-good functions (suc n) h = chosen (λ (m : Modes). badModes m ≡ false) (flag (getD functions n noModes .available)) _ _ (λ _. each-good functions n h) (λ _. refl)
+used-good functions (suc n) h = either-way (λ (m : Modes). badModes m ≡ false) (flag (getD functions n noModes .available)) _ _ (λ _. each-good functions n h) (λ _. refl)
 
 item-1-there : (pcm items : ℕ) → lacksItem1 pcm items ≡ false → (pcm % 4 ≡ 0 → ⊥) → eqb (items / 2 % 2) 0 ≡ false
-item-1-there pcm items h some = chosen (λ (b : Bool). b ≡ false → eqb (items / 2 % 2) 0 ≡ false) (eqb (pcm % 4) 0) _ _ (λ t _. absurd (some (eqb-true _ _ t))) (λ _ e. e) h
+item-1-there pcm items h some = either-way (λ (b : Bool). b ≡ false → eqb (items / 2 % 2) 0 ≡ false) (eqb (pcm % 4) 0) _ _ (λ t _. absurd (some (eqb-true _ _ t))) (λ _ e. e) h
 
 -- what the test leaves
 pub record Good (modes : Modes) : Type 0 where
@@ -41,7 +41,7 @@ module _ (rec : Record) (good : badRecord rec ≡ false) where
   pub good-home : (inUse rec (rec .home) .available ≡ 1) × (anyBad (rec .functions) ≡ false)
   unfolding badRecord
   good-home =
-      chosen (λ (b : Bool). b ≡ false → (inUse rec (rec .home) .available ≡ 1) × (anyBad (rec .functions) ≡ false)) _ _ _
+      either-way (λ (b : Bool). b ≡ false → (inUse rec (rec .home) .available ≡ 1) × (anyBad (rec .functions) ≡ false)) _ _ _
       (λ t h. (eqb-true _ _ t, either-false _ _ h .1)) (λ _ h. clash h) good
 
   pub good-modes : (f : ℕ) → Good (inUse rec f)
@@ -69,4 +69,4 @@ available-within functions f h = within-by functions f (ltb (length functions) f
 pub none-used : (functions : List Modes) (f : ℕ) → flag (modesAt functions f .available) ≡ false → modesAt functions f ≡ noModes
 unfolding modesAt
 none-used functions zero = λ _. refl
-none-used functions (suc n) = chosen (λ (m : Modes). flag (m .available) ≡ false → m ≡ noModes) (flag (getD functions n noModes .available)) _ _ (λ t h. clash (sym t ∙ h)) (λ _ _. refl)
+none-used functions (suc n) = either-way (λ (m : Modes). flag (m .available) ≡ false → m ≡ noModes) (flag (getD functions n noModes .available)) _ _ (λ t h. clash (sym t ∙ h)) (λ _ _. refl)

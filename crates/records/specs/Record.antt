@@ -4,7 +4,7 @@ use mathlib.Core.Bool.{Bool, true, false}
 use mathlib.Core.List.{List, [], _∷_}
 use lib.Dec.{leb, ltb, eqb}
 use lib.ListN.{getD}
-use Rattle.laws.specs.Choice.{choose, either}
+use Rattle.laws.specs.Logic.{when, either}
 use Rattle.records.specs.declared.Modes.{Modes}
 use Rattle.records.specs.declared.Record.{Record}
 
@@ -22,7 +22,7 @@ noFlag n = ltb 1 n
 
 -- "one not available has no modes and no PCM, even where they are filled in"
 abbrev pub whereAvailable : Modes → Modes
-whereAvailable modes = choose (flag (modes .available)) modes noModes
+whereAvailable modes = when (flag (modes .available)) modes noModes
 
 -- functions are counted from 1; a number that is no function has no modes
 unfoldable pub modesAt : List Modes → ℕ → Modes
@@ -33,13 +33,13 @@ modesAt functions (suc n) = whereAvailable (getD functions n noModes)
 abbrev pub inUse : Record → ℕ → Modes
 inUse rec function = modesAt (rec .functions) function
 
--- "a set holds anything outside 1 to 12"
+-- "a set holds anything outside 1 to 12": item 0, or one from 13 on, whose weight is 8192
 abbrev pub outside : ℕ → Bool
 outside items = either (eqb (items % 2) 1) (leb 8192 items)
 
 -- "PCM b5 or b6 is set without item 1 in the same function"; b5 and b6 are the two lowest bits of the options
 abbrev pub lacksItem1 : ℕ → ℕ → Bool
-lacksItem1 pcm items = choose (eqb (pcm % 4) 0) false (eqb (items / 2 % 2) 0)
+lacksItem1 pcm items = when (eqb (pcm % 4) 0) false (eqb (items / 2 % 2) 0)
 
 -- one function's share of what makes a record bad
 abbrev pub badModes : Modes → Bool
@@ -56,4 +56,4 @@ badFlags rec = either (noFlag (rec .lapm)) (either (noFlag (rec .access)) (eithe
 
 -- "It is bad (10) if the home function isn't an available one, .."
 unfoldable pub badRecord : Record → Bool
-badRecord rec = choose (flag (inUse rec (rec .home) .available)) (either (badFlags rec) (anyBad (rec .functions))) true
+badRecord rec = when (flag (inUse rec (rec .home) .available)) (either (badFlags rec) (anyBad (rec .functions))) true

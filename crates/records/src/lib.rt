@@ -1,6 +1,15 @@
 // Records: what an end can do, the test of a record, and the set in use for a function.
 ghost use mathlib.Core.Path.{_≡_};
-ghost use Rattle.records.specs.Record.{noModes, badModes, badFlags, inUse, badRecord};
+ghost use Rattle.records.specs.Record.{noModes, outside, lacksItem1, badModes, badFlags, inUse, badRecord};
+
+// The last function; they are counted from 1.
+const LAST_FUNCTION: u8 = 6;
+
+// The weight of item 13 in a set: there is none.
+const ITEM_13: u16 = 8192;
+
+// b5, b6 and b7 of a PCM group.
+const ALL_OPTIONS: u8 = 7;
 
 // What an end has for one call function: 1 where it is available, otherwise 0; items as a set, bit i for item i; PCM options with b5
 // lowest.
@@ -36,10 +45,7 @@ fn no_modes() -> Modes
 pub fn in_use(own: Record, function: u8) -> Modes
     ensures { λ r. ⌜ r ≡ inUse own function ⌝ }
 {
-    if function == 0 {
-        return no_modes();
-    }
-    if 6 < function {
+    if function == 0 || LAST_FUNCTION < function {
         return no_modes();
     }
     let at = (function - 1) as usize;
@@ -51,63 +57,49 @@ pub fn in_use(own: Record, function: u8) -> Modes
     no_modes()
 }
 
-// Neither yes nor no, an item outside 1 to 12, options over 7, or b5 or b6 without item 1.
+// An item outside 1 to 12.
+fn is_outside(items: u16) -> bool
+    ensures { λ r. ⌜ r ≡ outside items ⌝ }
+{
+    items % 2 == 1 || ITEM_13 <= items
+}
+
+// PCM b5 or b6 without item 1.
+fn lacks_item_1(pcm: u8, items: u16) -> bool
+    ensures { λ r. ⌜ r ≡ lacksItem1 pcm items ⌝ }
+{
+    pcm % 4 != 0 && items / 2 % 2 == 0
+}
+
 fn bad_modes(modes: Modes) -> bool
     ensures { λ r. ⌜ r ≡ badModes modes ⌝ }
 {
-    let items = modes.items;
-    let pcm = modes.pcm;
-    if 1 < modes.available {
-        return true;
-    }
-    if items % 2 == 1 {
-        return true;
-    }
-    if 8192 <= items {
-        return true;
-    }
-    if 7 < pcm {
-        return true;
-    }
-    if pcm % 4 == 0 {
-        return false;
-    }
-    items / 2 % 2 == 0
+    1 < modes.available
+        || (is_outside(modes.items)
+            || (ALL_OPTIONS < modes.pcm || lacks_item_1(modes.pcm, modes.items)))
 }
 
 fn bad_flags(own: Record) -> bool
     ensures { λ r. ⌜ r ≡ badFlags own ⌝ }
 {
-    if 1 < own.lapm {
-        return true;
-    }
-    if 1 < own.access {
-        return true;
-    }
-    if 1 < own.cellular {
-        return true;
-    }
-    1 < own.digital
+    1 < own.lapm || (1 < own.access || (1 < own.cellular || 1 < own.digital))
 }
 
-// The test for 10: all six functions, available or not, and the home function.
+// The test for 10: the home function, and all six functions, available or not.
 pub fn bad(own: Record) -> bool
     ensures { λ r. ⌜ r ≡ badRecord own ⌝ }
 {
     let home = in_use(own, own.home);
-    if home.available == 1 {
-        if bad_flags(own) {
+    if home.available != 1 || bad_flags(own) {
+        return true;
+    }
+    let functions = own.functions;
+    let mut i: usize = 0;
+    while i < functions.len() {
+        if bad_modes(functions[i]) {
             return true;
         }
-        let functions = own.functions;
-        let mut i: usize = 0;
-        while i < 6 {
-            if bad_modes(functions[i]) {
-                return true;
-            }
-            i += 1;
-        }
-        return false;
+        i += 1;
     }
-    true
+    false
 }

@@ -4,8 +4,8 @@ use super::telling;
 use super::words::part;
 use listening::Heard;
 use octets::Kind;
-use octets::Wrote;
 use records::Record;
+use refusals::Wrote;
 use steps::Session;
 
 // A menu that we made: at most seven octets.
@@ -152,13 +152,13 @@ fn with_told(end: End, told: u8) -> End {
 }
 
 // A report as a number: that of a refusal, or one of those above.
-pub fn told_of(heard: Heard) -> u8 {
-    match heard {
+pub fn told_of(report: Heard) -> u8 {
+    match report {
         Heard::Nothing => TOLD_NOTHING,
         Heard::Ci => TOLD_CI,
         Heard::Menu(agreed) => { if agreed { TOLD_AGREED } else { TOLD_MENU } }
         Heard::Cj => TOLD_CJ,
-        Heard::Refused(r) => octets::refusal_number(r),
+        Heard::Refused(r) => refusals::refusal_number(r),
     }
 }
 

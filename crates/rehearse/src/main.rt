@@ -21,21 +21,21 @@ use ends::Menu;
 use libc::STDIN_FILENO;
 use listening::Listener;
 use listening::Message;
-use octets::Wrote;
 use plans::Plan;
 use records::Record;
+use refusals::Wrote;
 use steps::Session;
 ghost use Prim.Native.Nat.{_<_};
 
 // An end, and the record of what it hears.
 struct Line {
     end: End,
-    ear: Listener,
+    listener: Listener,
 }
 
 // What a bit reports, and whether it is the message of the report before.
 struct Report {
-    ear: Listener,
+    listener: Listener,
     told: u8,
     again: bool,
 }
@@ -73,14 +73,14 @@ fn same_message(a: Message, b: Message) -> bool {
     false
 }
 
-fn listen(ear: Listener, bit: u8) -> Report {
-    let answer = listening::hear(ear, bit);
-    let heard = answer.heard;
+fn listen(listener: Listener, bit: u8) -> Report {
+    let answer = listening::hear(listener, bit);
+    let report = answer.report;
     let after = answer.rec;
     Report {
-        ear: after,
-        told: ends::told_of(heard),
-        again: same_message(ear.last, after.msg),
+        listener: after,
+        told: ends::told_of(report),
+        again: same_message(listener.last, after.msg),
     }
 }
 
@@ -97,15 +97,15 @@ fn hear_message(end: End, own: Record, told: u8, again: bool, m: Message, now: u
 }
 
 fn hear_bit(line: Line, own: Record, bit: u8, now: u32) -> Line {
-    let ear = line.ear;
+    let listener = line.listener;
     let end = line.end;
-    let report = listen(ear, bit);
-    let after = report.ear;
+    let report = listen(listener, bit);
+    let after = report.listener;
     let m = after.msg;
     let next = hear_message(end, own, report.told, report.again, m, now);
     Line {
         end: next,
-        ear: after,
+        listener: after,
     }
 }
 
@@ -183,7 +183,7 @@ fn run(call: Call, own: Record, damaged: &[u8]) -> Call {
 fn begin(session: Session, menu: Menu) -> Line {
     Line {
         end: ends::begin(session, menu),
-        ear: listening::fresh_line(),
+        listener: listening::fresh_line(),
     }
 }
 
@@ -223,7 +223,7 @@ fn call_with(text: &[u8], plan: Plan, damaged: &[u8]) {
     match made {
         Wrote::Refused(r) => telling::tell_function_refused(
             plan.function_line,
-            octets::refusal_number(r),
+            refusals::refusal_number(r),
         ),
         Wrote::Count(len) => rehearse(
             Menu {

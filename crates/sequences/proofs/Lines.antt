@@ -11,7 +11,7 @@ use lib.Dec.{lit<}
 use lib.ListN.{length, take, drop, getD, length-append}
 use lib.Seq.{drop-cons, length-take-le, take-add}
 use borrow.Rule.Slice.PartMut.{putMid}
-use Rattle.laws.specs.Choice.{both}
+use Rattle.laws.specs.Logic.{both}
 use Rattle.laws.specs.Front.{front}
 use Rattle.laws.specs.Tests.{allBelow, sameList}
 use Rattle.laws.proofs.Computed.{below, same-list}
@@ -19,7 +19,7 @@ use Rattle.laws.proofs.Rest.{front-length, lent-length, front-then}
 use Rattle.octets.specs.declared.Kind.{Kind}
 use Rattle.octets.specs.declared.Kind.the-variants.{Ci, Menu}
 use Rattle.sequences.specs.Line.{framed, framedAll, tenOnes, sync, sequence, copies, cj}
-use Rattle.sequences.specs.Tens.{spreads, tenBits, syncTen, octetTen}
+use Rattle.sequences.specs.Inner.{tenBits, spreads, onesTen, syncTen, octetTen}
 
 -- ten bits from the bytes of two spreads
 abbrev pub storedTen : ℕ → ℕ → ℕ → List ℕ
@@ -30,10 +30,10 @@ storesTen v = sameList (storedTen (getD spreads (v % 16) 0) (getD spreads (v / 1
 
 pub ten-stored : (v : ℕ) → v < 1024 → storedTen (getD spreads (v % 16) 0) (getD spreads (v / 16 % 16) 0) v ≡ tenBits v
 unfolding tenBits allBelow sameList both
-ten-stored v h = same-list (storedTen (getD spreads (v % 16) 0) (getD spreads (v / 16 % 16) 0) v) (tenBits v) (below storesTen 1024 tt v h)
+ten-stored v small = same-list (storedTen (getD spreads (v % 16) 0) (getD spreads (v / 16 % 16) 0) v) (tenBits v) (below storesTen 1024 tt v small)
 
--- ten bits as one number
-ten-ones : tenBits 1023 ≡ tenOnes
+-- the numbers of `Inner` are the bits of `Line`
+ten-ones : tenBits onesTen ≡ tenOnes
 unfolding tenBits
 ten-ones = refl
 
@@ -42,20 +42,21 @@ unfolding tenBits
 ten-sync Ci = refl
 ten-sync Menu = refl
 
-abbrev tenIsFramed : ℕ → Bool
-tenIsFramed b = sameList (tenBits (octetTen b)) (framed b)
-
 pub sync-small : (kind : Kind) → syncTen kind < 1024
 sync-small Ci = lit< tt
 sync-small Menu = lit< tt
 
+abbrev tenIsFramed : ℕ → Bool
+tenIsFramed b = sameList (tenBits (octetTen b)) (framed b)
+
 pub ten-octet : (b : ℕ) → b < 256 → tenBits (octetTen b) ≡ framed b
 unfolding tenBits framed allBelow sameList both
-ten-octet b h = same-list (tenBits (octetTen b)) (framed b) (below tenIsFramed 256 tt b h)
+ten-octet b small = same-list (tenBits (octetTen b)) (framed b) (below tenIsFramed 256 tt b small)
 
-pub preambled : (kind : Kind) (octets : List ℕ) (v : ℕ) → v ≡ syncTen kind → (tenBits 1023 ++ tenBits v) ++ framedAll octets ≡ sequence kind octets
+pub preambled : (kind : Kind) (octets : List ℕ) (v : ℕ) → v ≡ syncTen kind → (tenBits onesTen ++ tenBits v) ++ framedAll octets ≡ sequence kind octets
 unfolding sequence
-preambled kind octets v e = ap (λ (l : List ℕ). tenBits 1023 ++ l ++ framedAll octets) (ap tenBits e ∙ ten-sync kind) ∙ ap (λ (l : List ℕ). l ++ sync kind ++ framedAll octets) ten-ones
+preambled kind octets v is-sync =
+    ap (λ (bits : List ℕ). tenBits onesTen ++ bits ++ framedAll octets) (ap tenBits is-sync ∙ ten-sync kind) ∙ ap (λ (bits : List ℕ). bits ++ sync kind ++ framedAll octets) ten-ones
 
 -- lengths
 pub ten-length : (v : ℕ) → length (tenBits v) ≡ 10
@@ -90,21 +91,21 @@ unfolding framedAll
 framed-one octets i h b = ten-octet (getD octets i 0) b ∙ sym (append-nil (framed (getD octets i 0))) ∙ rw (drop-cons octets i 0 h)
 
 -- the first i octets stand at the front of the buffer, and a writer is lent what lies behind them
-module _ (octets x xs : List ℕ) (i : ℕ) (room : 10 * length octets ≤ length x) (within : i ≤ length octets) (e : xs ≡ front (framedAll (take i octets)) x) where
+module _ (octets lent now : List ℕ) (i : ℕ) (room : 10 * length octets ≤ length lent) (within : i ≤ length octets) (stands : now ≡ front (framedAll (take i octets)) lent) where
   pub done-length : 10 * i ≡ length (framedAll (take i octets))
   done-length = omega (arith, framed-length (take i octets), length-take-le i octets within)
 
-  pub out-length : length xs ≡ length x
-  out-length = ap length e ∙ front-length (framedAll (take i octets)) x (omega (arith, done-length))
+  pub out-length : length now ≡ length lent
+  out-length = ap length stands ∙ front-length (framedAll (take i octets)) lent (omega (arith, done-length))
 
-  pub rest-length : length (take (length xs - 10 * i) (drop (10 * i) xs)) ≡ length x - 10 * i
-  rest-length = lent-length (framedAll (take i octets)) x xs (10 * i) done-length (omega arith) e
+  pub rest-length : length (take (length now - 10 * i) (drop (10 * i) now)) ≡ length lent - 10 * i
+  rest-length = lent-length (framedAll (take i octets)) lent now (10 * i) done-length (omega arith) stands
 
-  pub framed-more : (r : ℕ) (ys : List ℕ) → ys ≡ front (framedAll (take r (drop i octets))) (take (length xs - 10 * i) (drop (10 * i) xs))
-      → putMid (10 * i) (length xs - 10 * i) xs ys ≡ front (framedAll (take (i + r) octets)) x
-  framed-more r ys f =
-      front-then (framedAll (take i octets)) x xs (10 * i) done-length (omega arith) e (framedAll (take r (drop i octets))) ys f
-      ∙ ap (λ (g : List ℕ). front g x) (sym (framed-join octets i r))
+  pub framed-more : (r : ℕ) (rest : List ℕ) → rest ≡ front (framedAll (take r (drop i octets))) (take (length now - 10 * i) (drop (10 * i) now))
+      → putMid (10 * i) (length now - 10 * i) now rest ≡ front (framedAll (take (i + r) octets)) lent
+  framed-more r rest rest-stands =
+      front-then (framedAll (take i octets)) lent now (10 * i) done-length (omega arith) stands (framedAll (take r (drop i octets))) rest rest-stands
+      ∙ ap (λ (bits : List ℕ). front bits lent) (sym (framed-join octets i r))
 
 -- copies: how long they are, and one more behind the others
 pub copies-length : (n : ℕ) (line : List ℕ) → length (copies n line) ≡ n * length line
@@ -125,11 +126,11 @@ pub copies-more-length : (n : ℕ) (line : List ℕ) → length (copies (n + 1) 
 copies-more-length n line = ap length (copies-more n line) ∙ length-append (copies n line) line
 
 pub copies-within : (k n : ℕ) (line : List ℕ) → k ≤ n → length (copies k line) ≤ length (copies n line)
-copies-within k n line h = omega (arith, copies-length k line, copies-length n line, mul-le-mul-right (length line) h)
+copies-within k n line fewer = omega (arith, copies-length k line, copies-length n line, mul-le-mul-right (length line) fewer)
 
 -- what the writer counts: at most 65,535 copies of at most 660 bits
 pub line-length : (kind : Kind) (octets : List ℕ) (n : ℕ) → length (copies n (sequence kind octets)) ≡ n * (20 + 10 * length octets)
-line-length kind octets n = copies-length n (sequence kind octets) ∙ ap (λ (k : ℕ). n * k) (sequence-length kind octets)
+line-length kind octets n = copies-length n (sequence kind octets) ∙ ap (λ (size : ℕ). n * size) (sequence-length kind octets)
 
 pub line-small : (octets : List ℕ) (n : ℕ) → length octets ≤ 64 → n ≤ 65535 → n * (20 + 10 * length octets) ≤ 43253100
-line-small octets n h k = omega (arith, mul-le-mul-right (20 + 10 * length octets) k)
+line-small octets n few times = omega (arith, mul-le-mul-right (20 + 10 * length octets) times)

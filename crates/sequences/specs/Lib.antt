@@ -1,3 +1,3 @@
 pub mod Line
-pub mod Tens
 pub mod Writing
+pub mod Inner

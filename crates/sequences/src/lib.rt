@@ -1,17 +1,17 @@
 // Bits on the line: sequences, copies of them, and CJ, written into a lent buffer of bytes that are 0 or 1.
 use octets::Kind;
 use octets::Purpose;
-use octets::Refusal;
-use octets::Verdict;
-use octets::Wrote;
+use refusals::Refusal;
+use refusals::Verdict;
+use refusals::Wrote;
 ghost use mathlib.Core.Path.{_≡_};
 ghost use Prim.Native.Nat.{_+_, _*_, _<_, _≤_};
 ghost use lib.ListN.{length, getD};
 ghost use Rattle.laws.specs.Front.{front};
-ghost use Rattle.octets.specs.Lent.{Meets};
+ghost use Rattle.refusals.specs.Lent.{Meets};
 ghost use Rattle.sequences.specs.Line.{framedAll, sequence, copies};
-ghost use Rattle.sequences.specs.Tens.{spreads, tenBits, syncTen, octetTen};
-ghost use Rattle.sequences.specs.Writing.{written, writtenCj, Grouped};
+ghost use Rattle.sequences.specs.Writing.{written, writtenCj};
+ghost use Rattle.sequences.specs.Inner.{spreads, tenBits, syncTen, octetTen, Grouped};
 
 // Four bits, a byte for each, the lowest first: 64 bytes of constants, with which the writer stores four bits at a time.
 const SPREAD: [u32; 16] = [
@@ -33,8 +33,27 @@ const SPREAD: [u32; 16] = [
     0x0101_0101,
 ];
 
+// Ten bits of the line as one number, the first lowest: ten 1s, the syncs, and an octet's stop bit.
+const TEN_ONES: u16 = 1023;
+
+const CI_SYNC: u16 = 512;
+
+const MENU_SYNC: u16 = 960;
+
+const STOP_BIT: u16 = 512;
+
+// How many bits: ten 1s or a sync, both of them, an octet in its frame, and CJ.
+const TEN: usize = 10;
+
+const PREAMBLE: usize = 20;
+
+const FRAME: usize = 10;
+
+const CJ_BITS: usize = 30;
+
 fn four(n: u16, spread: &[u32; 16]) -> u32
-    requires { ⌜ (n < 16) × (now spread ≡ spreads) ⌝ }
+    requires { ⌜ n < 16 ⌝ }
+    requires { ⌜ now spread ≡ spreads ⌝ }
     ensures { λ r. ⌜ r ≡ getD spreads n 0 ⌝ }
 {
     spread[n as usize]
@@ -42,7 +61,9 @@ fn four(n: u16, spread: &[u32; 16]) -> u32
 
 // Ten bits, the lowest first.
 fn write_ten(out: &mut [u8], v: u16, spread: &[u32; 16])
-    requires { ⌜ (10 ≤ length (now out)) × (v < 1024) × (now spread ≡ spreads) ⌝ }
+    requires { ⌜ 10 ≤ length (now out) ⌝ }
+    requires { ⌜ v < 1024 ⌝ }
+    requires { ⌜ now spread ≡ spreads ⌝ }
     ensures { λ _. ⌜ now (out .exit) ≡ front (tenBits v) (now (out .entry)) ⌝ }
 {
     let low = four(v % 16, spread);
@@ -62,26 +83,29 @@ fn write_ten(out: &mut [u8], v: u16, spread: &[u32; 16])
 fn octet_ten(b: u8) -> u16
     ensures { λ r. ⌜ r ≡ octetTen b ⌝ }
 {
-    512 + 2 * b as u16
+    STOP_BIT + 2 * b as u16
 }
 
 fn sync_ten(kind: Kind) -> u16
     ensures { λ r. ⌜ r ≡ syncTen kind ⌝ }
 {
     match kind {
-        Kind::Ci => 512,
-        Kind::Menu => 960,
+        Kind::Ci => CI_SYNC,
+        Kind::Menu => MENU_SYNC,
     }
 }
 
 // The group at the front of the octets: its category octet with the extension octets behind it. Answers how many octets that is.
 fn write_group(out: &mut [u8], octets: &[u8], spread: &[u32; 16]) -> usize
-    requires { ⌜ (0 < length (now octets)) × (length (now octets) ≤ 64) × (10 * length (now octets) ≤ length (now out)) × (now spread ≡ spreads) ⌝ }
+    requires { ⌜ 0 < length (now octets) ⌝ }
+    requires { ⌜ length (now octets) ≤ 64 ⌝ }
+    requires { ⌜ 10 * length (now octets) ≤ length (now out) ⌝ }
+    requires { ⌜ now spread ≡ spreads ⌝ }
     ensures { λ r. ⌜ Grouped (now (octets .entry)) (now (out .entry)) r (now (out .exit)) ⌝ }
 {
     let mut i: usize = 0;
     loop {
-        let at = 10 * i;
+        let at = FRAME * i;
         write_ten(&mut out[at..], octet_ten(octets[i]), spread);
         i += 1;
         if octets::group_ends(octets, i) {
@@ -92,32 +116,38 @@ fn write_group(out: &mut [u8], octets: &[u8], spread: &[u32; 16]) -> usize
 
 // All octets, group by group, each into what is left behind the group before it.
 fn write_groups(out: &mut [u8], octets: &[u8], spread: &[u32; 16])
-    requires { ⌜ (length (now octets) ≤ 64) × (10 * length (now octets) ≤ length (now out)) × (now spread ≡ spreads) ⌝ }
+    requires { ⌜ length (now octets) ≤ 64 ⌝ }
+    requires { ⌜ 10 * length (now octets) ≤ length (now out) ⌝ }
+    requires { ⌜ now spread ≡ spreads ⌝ }
     ensures { λ _. ⌜ now (out .exit) ≡ front (framedAll (now (octets .entry))) (now (out .entry)) ⌝ }
 {
     let mut i: usize = 0;
     while i < octets.len() {
-        let at = 10 * i;
+        let at = FRAME * i;
         i += write_group(&mut out[at..], &octets[i..], spread);
     }
 }
 
 // Ten 1s, ten sync bits, the octets.
 fn write_sequence(out: &mut [u8], kind: Kind, octets: &[u8], spread: &[u32; 16])
-    requires { ⌜ (length (now octets) ≤ 64) × (20 + 10 * length (now octets) ≤ length (now out)) × (now spread ≡ spreads) ⌝ }
+    requires { ⌜ length (now octets) ≤ 64 ⌝ }
+    requires { ⌜ 20 + 10 * length (now octets) ≤ length (now out) ⌝ }
+    requires { ⌜ now spread ≡ spreads ⌝ }
     ensures { λ _. ⌜ now (out .exit) ≡ front (sequence kind (now (octets .entry))) (now (out .entry)) ⌝ }
 {
-    write_ten(out, 1023, spread);
-    write_ten(&mut out[10..], sync_ten(kind), spread);
-    write_groups(&mut out[20..], octets, spread);
+    write_ten(out, TEN_ONES, spread);
+    write_ten(&mut out[TEN..], sync_ten(kind), spread);
+    write_groups(&mut out[PREAMBLE..], octets, spread);
 }
 
 // The sequence n times, each copy where the last one ended.
 fn write_copies(out: &mut [u8], kind: Kind, octets: &[u8], n: u16, spread: &[u32; 16])
-    requires { ⌜ (length (now octets) ≤ 64) × (length (copies n (sequence kind (now octets))) ≤ length (now out)) × (now spread ≡ spreads) ⌝ }
+    requires { ⌜ length (now octets) ≤ 64 ⌝ }
+    requires { ⌜ length (copies n (sequence kind (now octets))) ≤ length (now out) ⌝ }
+    requires { ⌜ now spread ≡ spreads ⌝ }
     ensures { λ _. ⌜ now (out .exit) ≡ front (copies n (sequence kind (now (octets .entry)))) (now (out .entry)) ⌝ }
 {
-    let size = 20 + 10 * octets.len();
+    let size = PREAMBLE + FRAME * octets.len();
     let mut at: usize = 0;
     let mut done: u16 = 0;
     while done < n {
@@ -135,7 +165,7 @@ pub fn write(kind: Kind, octets: &[u8], n: u16, out: &mut [u8]) -> Wrote
     match verdict {
         Verdict::Refused(r) => Wrote::Refused(r),
         Verdict::Accepted => {
-            let size = n as usize * (20 + 10 * octets.len());
+            let size = n as usize * (PREAMBLE + FRAME * octets.len());
             if out.len() < size {
                 return Wrote::Refused(Refusal::ShortBuffer);
             }
@@ -150,11 +180,11 @@ pub fn write(kind: Kind, octets: &[u8], n: u16, out: &mut [u8]) -> Wrote
 pub fn write_cj(out: &mut [u8]) -> Wrote
     ensures { λ r. ⌜ Meets (writtenCj (now (out .entry))) r (now (out .exit)) ⌝ }
 {
-    if out.len() < 30 {
+    if out.len() < CJ_BITS {
         return Wrote::Refused(Refusal::ShortBuffer);
     }
     let spread = SPREAD;
     let zeros = [0u8; 3];
     write_groups(out, &zeros, &spread);
-    Wrote::Count(30)
+    Wrote::Count(CJ_BITS)
 }

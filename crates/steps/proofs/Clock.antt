@@ -6,6 +6,6 @@ use mathlib.Core.Path.{_≡_}
 use Rattle.steps.specs.Stepping.{elapsed}
 
 -- the difference that wraps is the elapsed time
-pub wrapped : (now entry d : ℕ) → now < 2 ^ 32 → entry < 2 ^ 32 → d < 2 ^ 32 → (d + entry) % 2 ^ 32 ≡ now → d ≡ elapsed now entry
+pub difference-is-elapsed : (now entry d : ℕ) → now < 2 ^ 32 → entry < 2 ^ 32 → d < 2 ^ 32 → (d + entry) % 2 ^ 32 ≡ now → d ≡ elapsed now entry
 unfolding elapsed
-wrapped now entry d n e h w = omega arith
+difference-is-elapsed now entry d n e h w = omega arith

@@ -1,28 +1,69 @@
 -- What an event leads to, by the row that is taken: one law for every promise about steps.
 -- Assumes nothing.
-use Prim.Native.Nat.{ℕ}
-use mathlib.Core.Path.{_≡_}
-use mathlib.Core.Bool.{Bool, true}
+use Prim.Native.Nat.{ℕ, zero, suc, _+_, _<_}
+use native.Mathlib.Numerals.{add-one}
+use native.Mathlib.Omega.{arith}
+use mathlib.Core.Path.{_≡_, refl, ap, _∙_}
+use mathlib.Core.Bool.{Bool, true, false}
 use mathlib.Core.List.{List, [], _∷_}
 use borrow.Author.Tests.{eqb-true}
-use lib.Dec.{T, leb}
-use Rattle.laws.specs.Tests.{every}
-use Rattle.laws.proofs.Chosen.{chosen, both-true}
-use Rattle.laws.proofs.Computed.{both-left, both-right}
+use lib.Dec.{T, ltb, leb, ltb→lt}
+use lib.ListN.{getD, drop}
+use lib.Seq.{drop-cons}
+use Rattle.laws.specs.Logic.{when, both}
+use Rattle.laws.specs.Tests.{allBelow, every}
+use Rattle.laws.proofs.Logic.{either-way, both-true}
+use Rattle.laws.proofs.Computed.{both-left, both-right, below}
 use Rattle.steps.specs.declared.Session.{Session}
 use Rattle.steps.specs.declared.Row.{Row}
-use Rattle.steps.specs.declared.Found.{Found}
-use Rattle.steps.specs.declared.Found.the-variants.{At, Nothing}
+use Rattle.steps.specs.declared.RowFound.{RowFound}
+use Rattle.steps.specs.declared.RowFound.the-variants.{At, Nothing}
 use Rattle.steps.specs.Table.{rows}
 use Rattle.steps.specs.Session.{inRange}
-use Rattle.steps.specs.Stepping.{same, Outcome, elapsed, owns, carries, holds, applies, findRow, renewed, taken, moved, refuses, timed, steppedIn, stepped}
+use Rattle.steps.specs.Inner.{whatHolds}
+use Rattle.steps.specs.Stepping.{same, StepOutcome, elapsed, owns, carries, holds, rowFits, applies, findRow, renewed, rowTaken, moved, refusedStep, timed, steppedIn, stepped}
+
+-- the table, read at a place
+row-at : (i : ℕ) (d : Row) → i < 19 → drop i rows ≡ getD rows i d ∷ drop (i + 1) rows
+unfolding rows
+row-at i d h = rw add-one (drop-cons rows i d h)
+
+-- there are five conditions
+pub one-of-five : (i : ℕ) (d : Row) → i < 19 → getD rows i d .condition < 5
+unfolding rows allBelow both
+one-of-five i d h = ltb→lt _ 5 (below (λ k. ltb (getD rows k d .condition) 5) 19 tt i h)
+
+-- what the condition of this number comes to
+held-at : (s : Session) (value passed k : ℕ) (d : Bool) → k < 5 → getD (whatHolds s value passed) k d ≡ holds k s value passed
+unfolding when
+held-at s value passed zero d h = refl
+held-at s value passed (suc zero) d h = refl
+held-at s value passed (suc (suc zero)) d h = refl
+held-at s value passed (suc (suc (suc zero))) d h = refl
+held-at s value passed (suc (suc (suc (suc zero)))) d h = refl
+held-at s value passed (suc (suc (suc (suc (suc k))))) d h = absurd (let z : ⊥ = omega (arith, h) in z)
+
+-- the test of row i, by what was found of each condition
+pub tested-at : (s : Session) (event value passed i : ℕ) (d : Row) (held : List Bool) (e : Bool) → i < 19 → held ≡ whatHolds s value passed → rowFits (getD rows i d) (s .state) event passed (getD held (getD rows i d .condition) e) ≡ applies s event value passed (getD rows i d)
+unfolding applies
+tested-at s event value passed i d held e h is =
+    ap (rowFits (getD rows i d) (s .state) event passed) (ap (λ (l : List Bool). getD l (getD rows i d .condition) e) is ∙ held-at s value passed (getD rows i d .condition) e (one-of-five i d h))
+
+-- row i is found where it applies, and where it does not, the first behind it
+pub found-at : (s : Session) (event value passed i : ℕ) (d : Row) → i < 19 → applies s event value passed (getD rows i d) ≡ true → findRow s event value passed (drop i rows) ≡ At (getD rows i d .to)
+unfolding findRow when
+found-at s event value passed i d h a = rw (row-at i d h, a) refl
+
+pub found-behind : (s : Session) (event value passed i : ℕ) (d : Row) → i < 19 → applies s event value passed (getD rows i d) ≡ false → findRow s event value passed (drop i rows) ≡ findRow s event value passed (drop (i + 1) rows)
+unfolding findRow when
+found-behind s event value passed i d h a = rw (row-at i d h, a) refl
 
 -- a row that applies is one of this state and this event, and what it asks for holds
 pub record Applies (s : Session) (event value passed : ℕ) (r : Row) : Type 0 where
-  pub state : r .0 ≡ s .state
-  pub on : r .1 ≡ event
-  pub waited : leb (r .2) passed ≡ true
-  pub when : holds (r .3) s value passed ≡ true
+  pub state : r .state ≡ s .state
+  pub on : r .event ≡ event
+  pub waited : leb (r .least) passed ≡ true
+  pub holding : holds (r .condition) s value passed ≡ true
 
 module _ (s : Session) (event value passed : ℕ) where
   pub applied : (r : Row) → applies s event value passed r ≡ true → Applies s event value passed r
@@ -31,14 +72,14 @@ module _ (s : Session) (event value passed : ℕ) where
       let tests = both-true _ _ a in
       let rest = both-true _ _ (tests .1) in
       let asked = both-true _ _ (rest .1) in
-      record { state = eqb-true _ _ (tests .0); on = eqb-true _ _ (rest .0); waited = asked .0; when = asked .1 }
+      record { state = eqb-true _ _ (tests .0); on = eqb-true _ _ (rest .0); waited = asked .0; holding = asked .1 }
 
   -- what holds of every row that applies, where each may use a test computed over the table, and of no row, holds of the search
-  found-case : (P : Found → Type 0) (p : Row → Bool) (rs : List Row) → T (every p rs) → ((r : Row) → Applies s event value passed r → T (p r) → P (At r)) → P Nothing → P (findRow s event value passed rs)
+  found-case : (P : RowFound → Type 0) (p : Row → Bool) (rs : List Row) → T (every p rs) → ((r : Row) → Applies s event value passed r → T (p r) → P (At (r .to))) → P Nothing → P (findRow s event value passed rs)
   unfolding findRow every
   found-case P p [] t at none = none
   found-case P p (r ∷ rs) t at none =
-      chosen P (applies s event value passed r) (At r) (findRow s event value passed rs)
+      either-way P (applies s event value passed r) (At (r .to)) (findRow s event value passed rs)
       (λ a. at r (applied r a) (both-left (p r) (every p rs) t))
       (λ _. found-case P p rs (both-right (p r) (every p rs) t) at none)
 
@@ -51,14 +92,14 @@ module _ (s : Session) (event value now : ℕ) where
     pub row : Applies s event value (elapsed now (s .entry)) r
 
   -- an event is refused, or changes nothing, or one row is taken, and that may use a test computed over the table
-  pub step-case : (P : Outcome → Type 0) (p : Row → Bool) → T (every p rows) → ((n : ℕ) → P (refuses n s)) → P (record { answer = same; session = s }) → ((r : Row) → Taken r → T (p r) → P (taken (renewed s event value now) (r .4) (r .5))) → P (stepped s event value now)
+  pub step-case : (P : StepOutcome → Type 0) (p : Row → Bool) → T (every p rows) → ((n : ℕ) → P (refusedStep n s)) → P (record { answer = same; session = s }) → ((r : Row) → Taken r → T (p r) → P (rowTaken (renewed s event value now) (r .to))) → P (stepped s event value now)
   unfolding steppedIn timed
   step-case P p t refused none at =
-      chosen P (inRange s) (steppedIn s event value now) (refuses 10 s)
-      (λ inside. chosen P _ (refuses 7 s) _ (λ _. refused 7)
-      (λ _. chosen P _ (timed s event value now) (refuses 9 s)
-      (λ tests. chosen P _ _ (refuses 8 s)
-      (λ _. found-case s event value (elapsed now (s .entry)) (λ (found : Found). P (moved s event value now found)) p rows t
+      either-way P (inRange s) (steppedIn s event value now) (refusedStep 10 s)
+      (λ inside. either-way P _ (refusedStep 7 s) _ (λ _. refused 7)
+      (λ _. either-way P _ (timed s event value now) (refusedStep 9 s)
+      (λ tests. either-way P _ _ (refusedStep 8 s)
+      (λ _. found-case s event value (elapsed now (s .entry)) (λ (found : RowFound). P (moved s event value now found)) p rows t
       (λ r row. at r (record { inside = inside; own = both-true _ _ tests .0; fit = both-true _ _ tests .1; row = row })) none)
       (λ _. refused 8))
       (λ _. refused 9)))

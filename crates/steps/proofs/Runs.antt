@@ -5,27 +5,27 @@ use mathlib.Core.Path.{_≡_, refl, ap, _∙_}
 use mathlib.Core.Bool.{true}
 use mathlib.Core.List.{List, [], _∷_}
 use borrow.Author.Tests.{eq-eqb}
-use Rattle.laws.specs.Choice.{choose}
+use Rattle.laws.specs.Logic.{when}
 use Rattle.steps.specs.declared.Session.{Session}
 use Rattle.steps.specs.Table.{over}
 use Rattle.steps.specs.Session.{inRange}
-use Rattle.steps.specs.Stepping.{Outcome, refuses, steppedIn, stepped}
+use Rattle.steps.specs.Stepping.{StepOutcome, refusedStep, steppedIn, stepped}
 use Rattle.steps.specs.Runs.{Timed, next, run}
-use Rattle.steps.proofs.Ranges.{stepped-range}
+use Rattle.steps.proofs.Ranges.{step-keeps-range}
 
 -- after over every event is refused with 7
-pub after-over : (s : Session) (event value now : ℕ) → inRange s ≡ true → s .state ≡ over → stepped s event value now ≡ refuses 7 s
-unfolding steppedIn choose
-after-over s event value now h o = simp (h, eq-eqb _ _ o)
+pub over-is-refused : (s : Session) (event value now : ℕ) → inRange s ≡ true → s .state ≡ over → stepped s event value now ≡ refusedStep 7 s
+unfolding steppedIn when
+over-is-refused s event value now h o = simp (h, eq-eqb _ _ o)
 
 pub stays-over : (s : Session) (ts : List Timed) → inRange s ≡ true → s .state ≡ over → run s ts ≡ s
 unfolding run
 stays-over s [] h o = refl
 stays-over s (t ∷ ts) h o =
-    ap (λ (r : Outcome). run (r .session) ts) (after-over s (t .event) (t .value) (t .now) h o) ∙ stays-over s ts h o
+    ap (λ (r : StepOutcome). run (r .session) ts) (over-is-refused s (t .event) (t .value) (t .now) h o) ∙ stays-over s ts h o
 
 -- no events lead out of the ranges
-pub run-range : (s : Session) (ts : List Timed) → inRange s ≡ true → inRange (run s ts) ≡ true
+pub run-keeps-range : (s : Session) (ts : List Timed) → inRange s ≡ true → inRange (run s ts) ≡ true
 unfolding run
-run-range s [] h = h
-run-range s (t ∷ ts) h = run-range (next s t .session) ts (stepped-range s (t .event) (t .value) (t .now) h)
+run-keeps-range s [] h = h
+run-keeps-range s (t ∷ ts) h = run-keeps-range (next s t .session) ts (step-keeps-range s (t .event) (t .value) (t .now) h)

@@ -9,40 +9,40 @@ use mathlib.Core.List.{List, [], _∷_}
 use mathlib.Core.Logic.{_⊎_, inl, inr, ⊎-elim}
 use borrow.Author.Tests.{lt-ltb, le-leb, eq-eqb, ne-eqb, leb-true, eqb-true}
 use lib.Dec.{T, ltb, leb, eqb, eqb→eq, ltb→lt}
-use Rattle.laws.specs.Choice.{choose, both, either}
+use Rattle.laws.specs.Logic.{when, both, either}
 use Rattle.laws.specs.Tests.{allBelow, every}
-use Rattle.laws.proofs.Chosen.{chosen, both-true}
+use Rattle.laws.proofs.Logic.{either-way, both-true, clash}
 use Rattle.laws.proofs.Computed.{both-left, both-right, below}
 use Rattle.steps.specs.declared.Session.{Session}
 use Rattle.steps.specs.declared.Row.{Row}
-use Rattle.steps.specs.declared.Found.{Found}
-use Rattle.steps.specs.declared.Found.the-variants.{At}
+use Rattle.steps.specs.declared.RowFound.{RowFound}
+use Rattle.steps.specs.declared.RowFound.the-variants.{At}
 use Rattle.steps.specs.Table.{quiet, over, tick, always, teElapsed, rows}
 use Rattle.steps.specs.Session.{between, isTe, stateFits, endFits, inRange, caller}
-use Rattle.steps.specs.Stepping.{Outcome, elapsed, holds, applies, findRow, moved, timed, steppedIn, stepped}
+use Rattle.steps.specs.Stepping.{StepOutcome, elapsed, holds, applies, findRow, moved, timed, steppedIn, stepped}
 use Rattle.steps.specs.Runs.{least, ticks, limitIn, limit, passes}
-use Rattle.steps.proofs.Known.{never, is-so, is-not, taken-if, either-true, both-with}
+use Rattle.steps.proofs.Known.{is-so, is-not, taken-if, either-true, both-with}
 use Rattle.steps.proofs.Rows.{Applies, step-case}
 use Rattle.steps.proofs.Ranges.{range-fits}
 
 -- "'Elapsed' is tested on a tick only": a row for a tick asks for elapsed time, Te or more than none, and for nothing else; and
 -- a row for another event asks for none
 abbrev timely : Row → Bool
-timely r = choose (eqb (r .1) tick) (choose (eqb (r .3) teElapsed) (eqb (r .2) 0) (both (eqb (r .3) always) (ltb 0 (r .2)))) (both (eqb (r .2) 0) (not (eqb (r .3) teElapsed)))
+timely r = when (eqb (r .event) tick) (when (eqb (r .condition) teElapsed) (eqb (r .least) 0) (both (eqb (r .condition) always) (ltb 0 (r .least)))) (both (eqb (r .least) 0) (not (eqb (r .condition) teElapsed)))
 
 -- Te is asked for in quiet alone
 abbrev teInQuiet : Row → Bool
-teInQuiet r = choose (eqb (r .3) teElapsed) (eqb (r .0) quiet) true
+teInQuiet r = when (eqb (r .condition) teElapsed) (eqb (r .state) quiet) true
 
 -- a row leaves its state
 abbrev leaves : Row → Bool
-leaves r = not (eqb (r .4) (r .0))
+leaves r = not (eqb (r .to .0) (r .state))
 
 abbrev rowTicks : Row → Bool
 rowTicks r = both (timely r) (both (teInQuiet r) (leaves r))
 
 pub rows-tick : T (every rowTicks rows)
-unfolding choose both every rows
+unfolding when both every rows
 rows-tick = tt
 
 -- every state but calling, closing and over has a row for a tick
@@ -51,40 +51,40 @@ hasTick state [] = false
 hasTick state (r ∷ rs) = either (ticks state r) (hasTick state rs)
 
 abbrev passing : ℕ → Bool
-passing n = choose (both (ltb 0 n) (passes n)) (hasTick n rows) true
+passing n = when (both (ltb 0 n) (passes n)) (hasTick n rows) true
 
 states-tick : T (allBelow passing 11)
-unfolding choose both either allBelow rows hasTick
+unfolding when both either allBelow rows hasTick
 states-tick = tt
 
 -- what a row for a tick asks for comes to its time
-least-by : (te : Bool) (when n wait passed : ℕ) (rest : Bool) → T (choose te (eqb n 0) (both (eqb when always) (ltb 0 n))) → (eqb when always ≡ true → rest ≡ true) → both (leb n passed) (choose te (leb wait passed) rest) ≡ leb (choose te wait n) passed
-unfolding choose both
-least-by true when n wait passed rest t e = rw (le-leb n passed (omega (arith, eqb→eq n 0 t)))
-least-by false when n wait passed rest t e = rw (e (is-so _ (both-left (eqb when always) (ltb 0 n) t))) (both-with (leb n passed))
+least-by : (te : Bool) (condition n wait passed : ℕ) (rest : Bool) → T (when te (eqb n 0) (both (eqb condition always) (ltb 0 n))) → (eqb condition always ≡ true → rest ≡ true) → both (leb n passed) (when te (leb wait passed) rest) ≡ leb (when te wait n) passed
+unfolding when both
+least-by true condition n wait passed rest t e = rw (le-leb n passed (omega (arith, eqb→eq n 0 t)))
+least-by false condition n wait passed rest t e = rw (e (is-so _ (both-left (eqb condition always) (ltb 0 n) t))) (both-with (leb n passed))
 
-holds-least : (r : Row) (s : Session) (value passed : ℕ) → T (choose (eqb (r .3) teElapsed) (eqb (r .2) 0) (both (eqb (r .3) always) (ltb 0 (r .2)))) → both (leb (r .2) passed) (holds (r .3) s value passed) ≡ leb (least r s) passed
-unfolding choose
-holds-least r s value passed t = least-by (eqb (r .3) teElapsed) (r .3) (r .2) (s .te) passed _ t (λ a. rw (eqb-true (r .3) always a))
+holds-least : (r : Row) (s : Session) (value passed : ℕ) → T (when (eqb (r .condition) teElapsed) (eqb (r .least) 0) (both (eqb (r .condition) always) (ltb 0 (r .least)))) → both (leb (r .least) passed) (holds (r .condition) s value passed) ≡ leb (least r s) passed
+unfolding when
+holds-least r s value passed t = least-by (eqb (r .condition) teElapsed) (r .condition) (r .least) (s .te) passed _ t (λ a. rw (eqb-true (r .condition) always a))
 
 -- one row of the search for a tick's row, by its tests: of the state, of the tick, of the time
-tick-by : (a b h k : Bool) (P : Found → Type 0) (x y : Found) (m n passed : ℕ) → (b ≡ true → h ≡ leb m passed) → T (either (both a b) k) → leb (choose (both a b) m n) passed ≡ true → (a ≡ true → b ≡ true → h ≡ true → P x) → (T k → leb n passed ≡ true → P y) → P (choose (both a (both b h)) x y)
-unfolding choose both either
+tick-by : (a b h k : Bool) (P : RowFound → Type 0) (x y : RowFound) (m n passed : ℕ) → (b ≡ true → h ≡ leb m passed) → T (either (both a b) k) → leb (when (both a b) m n) passed ≡ true → (a ≡ true → b ≡ true → h ≡ true → P x) → (T k → leb n passed ≡ true → P y) → P (when (both a (both b h)) x y)
+unfolding when both either
 tick-by true true true k P x y m n passed e t l at on = at refl refl refl
-tick-by true true false k P x y m n passed e t l at on = absurd (never (e refl ∙ l))
+tick-by true true false k P x y m n passed e t l at on = clash (sym l ∙ sym (e refl))
 tick-by true false h k P x y m n passed e t l at on = on t l
 tick-by false b h k P x y m n passed e t l at on = on t l
 
 module _ (s : Session) (value passed : ℕ) where
   -- once the limit has passed, the row for a tick is found
-  tick-case : (P : Found → Type 0) (rs : List Row) → T (every rowTicks rs) → T (hasTick (s .state) rs) → leb (limitIn rs s) passed ≡ true → ((r : Row) → Applies s tick value passed r → T (rowTicks r) → P (At r)) → P (findRow s tick value passed rs)
+  tick-case : (P : RowFound → Type 0) (rs : List Row) → T (every rowTicks rs) → T (hasTick (s .state) rs) → leb (limitIn rs s) passed ≡ true → ((r : Row) → Applies s tick value passed r → T (rowTicks r) → P (At (r .to))) → P (findRow s tick value passed rs)
   unfolding findRow every hasTick limitIn applies
   tick-case P [] t has l at = absurd has
   tick-case P (r ∷ rs) t has l at =
       let row = both-left (rowTicks r) (every rowTicks rs) t in
-      tick-by (eqb (r .0) (s .state)) (eqb (r .1) tick) (both (leb (r .2) passed) (holds (r .3) s value passed)) (hasTick (s .state) rs) P (At r) (findRow s tick value passed rs) (least r s) (limitIn rs s) passed
-      (λ b. holds-least r s value passed (taken-if (eqb (r .1) tick) _ _ (both-left (timely r) _ row) b)) has l
-      (λ a b h. let asked = both-true _ _ h in at r (record { state = eqb-true _ _ a; on = eqb-true _ _ b; waited = asked .0; when = asked .1 }) row)
+      tick-by (eqb (r .state) (s .state)) (eqb (r .event) tick) (both (leb (r .least) passed) (holds (r .condition) s value passed)) (hasTick (s .state) rs) P (At (r .to)) (findRow s tick value passed rs) (least r s) (limitIn rs s) passed
+      (λ b. holds-least r s value passed (taken-if (eqb (r .event) tick) _ _ (both-left (timely r) _ row) b)) has l
+      (λ a b h. let asked = both-true _ _ h in at r (record { state = eqb-true _ _ a; on = eqb-true _ _ b; waited = asked .0; holding = asked .1 }) row)
       (λ k n. tick-case P rs (both-right (rowTicks r) (every rowTicks rs) t) k n at)
 
 -- a state that is in range is one of the ten
@@ -94,13 +94,13 @@ between-true low high n h = let tests = both-true _ _ h in (leb-true _ _ (tests 
 state-small : (end state : ℕ) → stateFits end state ≡ true → (0 < state) × (state < 11)
 state-small end state h =
     ⊎-elim (λ o. let e = eqb-true state over o in (omega (arith, e), omega (arith, e)))
-    (λ o. chosen (λ (v : Bool). v ≡ true → (0 < state) × (state < 11)) (eqb end caller) _ _ (λ _ b. let n = between-true _ _ state b in (omega (arith, n .0), omega (arith, n .1))) (λ _ b. let n = between-true _ _ state b in (omega (arith, n .0), omega (arith, n .1))) o)
+    (λ o. either-way (λ (v : Bool). v ≡ true → (0 < state) × (state < 11)) (eqb end caller) _ _ (λ _ b. let n = between-true _ _ state b in (omega (arith, n .0), omega (arith, n .1))) (λ _ b. let n = between-true _ _ state b in (omega (arith, n .0), omega (arith, n .1))) o)
     (either-true (eqb state over) _ h)
 
 module _ (s : Session) (value now : ℕ) (h : inRange s ≡ true) where
   -- a tick on the clock's good side looks up the table
   ticked : (s .state ≡ over → ⊥) → elapsed now (s .entry) < 2147483648 → stepped s tick value now ≡ moved s tick value now (findRow s tick value (elapsed now (s .entry)) rows)
-  unfolding steppedIn timed choose both either
+  unfolding steppedIn timed when both either
   ticked o e = simp (h, ne-eqb _ _ o, lt-ltb _ _ e)
 
   -- the first tick at or past the limit leaves the state: none of these states can last
@@ -108,46 +108,46 @@ module _ (s : Session) (value now : ℕ) (h : inRange s ≡ true) where
   unfolding both either
   leaves-in-time p l e stays =
       let small = state-small (s .end) (s .state) (range-fits s h .state) in
-      let going : s .state ≡ over → ⊥ = λ o. never (sym (ap passes o) ∙ p) in
+      let going : s .state ≡ over → ⊥ = λ o. clash (sym p ∙ ap passes o) in
       let has = taken-if (both (ltb 0 (s .state)) (passes (s .state))) (hasTick (s .state) rows) true (below passing 11 states-tick (s .state) (small .1)) (simp (lt-ltb _ _ (small .0), p)) in
-      tick-case s value (elapsed now (s .entry)) (λ (found : Found). moved s tick value now found .session .state ≡ s .state → ⊥) rows rows-tick has (le-leb _ _ l)
-      (λ r a t m. never (sym (is-not (eqb (r .4) (r .0)) (both-right (teInQuiet r) (leaves r) (both-right (timely r) _ t))) ∙ eq-eqb _ _ (m ∙ sym (a .state))))
-      (sym (ap (λ (o : Outcome). o .session .state) (ticked going e)) ∙ stays)
+      tick-case s value (elapsed now (s .entry)) (λ (found : RowFound). moved s tick value now found .session .state ≡ s .state → ⊥) rows rows-tick has (le-leb _ _ l)
+      (λ r a t m. clash (sym (eq-eqb _ _ (m ∙ sym (a .state))) ∙ is-not (eqb (r .to .0) (r .state)) (both-right (teInQuiet r) (leaves r) (both-right (timely r) _ t))))
+      (sym (ap (λ (o : StepOutcome). o .session .state) (ticked going e)) ∙ stays)
 
 -- an event leaves the session as it was, or its time is the entry time
-pub settles : (s : Session) (event value now : ℕ) → (stepped s event value now .session ≡ s) ⊎ (stepped s event value now .session .entry ≡ now)
-settles s event value now =
-    step-case s event value now (λ (o : Outcome). (o .session ≡ s) ⊎ (o .session .entry ≡ now)) rowTicks rows-tick (λ _. inl refl) (inl refl) (λ r _ _. inr refl)
+pub same-or-entered-now : (s : Session) (event value now : ℕ) → (stepped s event value now .session ≡ s) ⊎ (stepped s event value now .session .entry ≡ now)
+same-or-entered-now s event value now =
+    step-case s event value now (λ (o : StepOutcome). (o .session ≡ s) ⊎ (o .session .entry ≡ now)) rowTicks rows-tick (λ _. inl refl) (inl refl) (λ r _ _. inr refl)
 
 -- quiet is the caller's, whose Te is more than none
-te-by : (t : Bool) (te : ℕ) (x : Bool) → choose t true false ≡ true → choose t (isTe te) x ≡ true → isTe te ≡ true
-unfolding choose
+te-by : (t : Bool) (te : ℕ) (x : Bool) → when t true false ≡ true → when t (isTe te) x ≡ true → isTe te ≡ true
+unfolding when
 te-by true te x c e = e
-te-by false te x c e = absurd (never c)
+te-by false te x c e = clash (sym c)
 
 quiet-te : (end te state : ℕ) → stateFits end state ≡ true → endFits end te ≡ true → state ≡ quiet → 0 < te
 unfolding both either
 quiet-te end te state f e q =
-    let own : choose (eqb end caller) true false ≡ true = sym (ap (stateFits end) q) ∙ f in
+    let own : when (eqb end caller) true false ≡ true = sym (ap (stateFits end) q) ∙ f in
     omega (arith, between-true 500 5000 te (te-by (eqb end caller) te _ own e) .0)
 
 -- at the entry time no row for a tick applies
-least-some : (te : Bool) (when n wait : ℕ) → T (choose te (eqb n 0) (both (eqb when always) (ltb 0 n))) → (te ≡ true → 0 < wait) → 0 < choose te wait n
-unfolding choose
-least-some true when n wait t q = q refl
-least-some false when n wait t q = ltb→lt 0 n (both-right (eqb when always) (ltb 0 n) t)
+least-some : (te : Bool) (condition n wait : ℕ) → T (when te (eqb n 0) (both (eqb condition always) (ltb 0 n))) → (te ≡ true → 0 < wait) → 0 < when te wait n
+unfolding when
+least-some true condition n wait t q = q refl
+least-some false condition n wait t q = ltb→lt 0 n (both-right (eqb condition always) (ltb 0 n) t)
 
 tick-at-entry : (s : Session) (value now : ℕ) → s .entry ≡ now → stepped s tick value now .session ≡ s
 unfolding elapsed both
 tick-at-entry s value now e =
     let none : elapsed now (s .entry) ≡ 0 = simp e (omega arith) in
-    step-case s tick value now (λ (o : Outcome). o .session ≡ s) rowTicks rows-tick (λ _. refl) refl
-    (λ r k t.
-    let f = range-fits s (k .inside) in
-    let asked = taken-if (eqb (r .1) tick) _ _ (both-left (timely r) _ t) (eq-eqb _ _ (k .row .on)) in
-    let te = both-left (teInQuiet r) (leaves r) (both-right (timely r) _ t) in
-    let some = least-some (eqb (r .3) teElapsed) (r .3) (r .2) (s .te) asked (λ q. quiet-te (s .end) (s .te) (s .state) (f .state) (f .end) (sym (k .row .state) ∙ eqb→eq _ _ (taken-if (eqb (r .3) teElapsed) (eqb (r .0) quiet) true te q))) in
-    let passed : leb (least r s) (elapsed now (s .entry)) ≡ true = sym (holds-least r s value (elapsed now (s .entry)) asked) ∙ simp (k .row .waited, k .row .when) in
+    step-case s tick value now (λ (o : StepOutcome). o .session ≡ s) rowTicks rows-tick (λ _. refl) refl
+    (λ r taking tested.
+    let f = range-fits s (taking .inside) in
+    let asked = taken-if (eqb (r .event) tick) _ _ (both-left (timely r) _ tested) (eq-eqb _ _ (taking .row .on)) in
+    let te = both-left (teInQuiet r) (leaves r) (both-right (timely r) _ tested) in
+    let some = least-some (eqb (r .condition) teElapsed) (r .condition) (r .least) (s .te) asked (λ q. quiet-te (s .end) (s .te) (s .state) (f .state) (f .end) (sym (taking .row .state) ∙ eqb→eq _ _ (taken-if (eqb (r .condition) teElapsed) (eqb (r .state) quiet) true te q))) in
+    let passed : leb (least r s) (elapsed now (s .entry)) ≡ true = sym (holds-least r s value (elapsed now (s .entry)) asked) ∙ simp (taking .row .waited, taking .row .holding) in
     absurd (let z : ⊥ = omega (arith, some, none, leb-true (least r s) (elapsed now (s .entry)) passed) in z))
 
 -- "one tick makes one change at most": the same tick again changes nothing
@@ -155,4 +155,4 @@ pub tick-once : (s : Session) (value now : ℕ) → stepped (stepped s tick valu
 tick-once s value now =
     ⊎-elim (λ e. ap (λ (x : Session). stepped x tick value now .session) e)
     (λ e. tick-at-entry (stepped s tick value now .session) value now e)
-    (settles s tick value now)
+    (same-or-entered-now s tick value now)

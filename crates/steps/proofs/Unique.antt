@@ -1,7 +1,7 @@
 -- No two answers say the same, and two results that meet what is laid down are equal.
 -- Assumes nothing.
 use mathlib.Core.Path.{_≡_, refl, sym, ap, _∙_}
-use Rattle.octets.proofs.Numbers.{named, named-number}
+use Rattle.refusals.proofs.Numbers.{named, named-number}
 use Rattle.steps.specs.declared.Session.{Session}
 use Rattle.steps.specs.declared.Answer.{Answer}
 use Rattle.steps.specs.declared.Answer.the-variants.{Same, Entered, Ended, GoOn, Refused}
@@ -10,7 +10,7 @@ use Rattle.steps.specs.declared.Started.{Started}
 use Rattle.steps.specs.declared.Started.the-variants as starts
 use Rattle.steps.specs.Session.{Start, ready, saysStarted}
 use Rattle.steps.specs.Session as session
-use Rattle.steps.specs.Stepping.{Answered, same, entered, ended, goOn, refusal, says, Outcome, Steps}
+use Rattle.steps.specs.Stepping.{Answered, same, entered, ended, goOn, refusal, saysAnswer, StepOutcome, Steps}
 
 -- the answer that says this
 abbrev saying : Answered → Answer
@@ -20,19 +20,19 @@ saying (ended how) = Ended how
 saying (goOn choice) = GoOn choice
 saying (refusal n) = Refused (named n)
 
-said : (a : Answer) → saying (says a) ≡ a
+said : (a : Answer) → saying (saysAnswer a) ≡ a
 said Same = refl
 said (Entered state) = refl
 said (Ended how) = refl
 said (GoOn choice) = refl
 said (Refused r) = ap Refused (named-number r)
 
-pub says-injective : (a b : Answer) → says a ≡ says b → a ≡ b
-says-injective a b e = sym (said a) ∙ ap saying e ∙ said b
+pub says-answer-injective : (a b : Answer) → saysAnswer a ≡ saysAnswer b → a ≡ b
+says-answer-injective a b e = sym (said a) ∙ ap saying e ∙ said b
 
-pub steps-unique : (laid : Outcome) (a b : Stepped) → Steps laid a → Steps laid b → a ≡ b
+pub steps-unique : (laid : StepOutcome) (a b : Stepped) → Steps laid a → Steps laid b → a ≡ b
 steps-unique laid a b p q =
-    let answer = says-injective (a .answer) (b .answer) (p .answer ∙ sym (q .answer)) in
+    let answer = says-answer-injective (a .answer) (b .answer) (p .answer ∙ sym (q .answer)) in
     let session = p .session ∙ sym (q .session) in
     ap (λ (s : Session). record { session = s; answer = a .answer }) session ∙ ap (λ (x : Answer). record { session = b .session; answer = x }) answer
 

@@ -2,3 +2,4 @@ pub mod Table
 pub mod Session
 pub mod Stepping
 pub mod Runs
+pub mod Inner

@@ -2,8 +2,8 @@
 use Prim.Native.Nat.{ℕ}
 use mathlib.Core.Bool.{Bool, true, not}
 use lib.Dec.{ltb, leb, eqb}
-use Rattle.laws.specs.Choice.{choose, both, either}
-use Rattle.octets.specs.Refusals.{number}
+use Rattle.laws.specs.Logic.{when, both, either}
+use Rattle.refusals.specs.Refusals.{number}
 use Rattle.steps.specs.declared.Session.{Session}
 use Rattle.steps.specs.declared.Started.{Started}
 use Rattle.steps.specs.declared.Started.the-variants.{Ready, Refused}
@@ -46,11 +46,15 @@ answerer = 2
 
 -- Te is the caller's alone
 abbrev pub endFits : ℕ → ℕ → Bool
-endFits end te = choose (eqb end caller) (isTe te) (both (eqb end answerer) (eqb te 0))
+endFits end te = when (eqb end caller) (isTe te) (both (eqb end answerer) (eqb te 0))
+
+-- from low to high at the caller, and from least to most at the answerer
+abbrev pub ofEnd : ℕ → ℕ → ℕ → ℕ → ℕ → ℕ → Bool
+ofEnd end low high least most n = when (eqb end caller) (between low high n) (between least most n)
 
 -- a state of this end; pause and over are both ends'
 abbrev pub stateFits : ℕ → ℕ → Bool
-stateFits end state = either (eqb state over) (choose (eqb end caller) (between callerStill pause state) (between pause joint state))
+stateFits end state = either (eqb state over) (ofEnd end callerStill pause pause joint state)
 
 -- the states before a menu is agreed: caller still to menu, answerer still and answering
 abbrev pub early : ℕ → Bool
@@ -58,11 +62,11 @@ early state = either (ltb state closing) (between answererStill answering state)
 
 -- nothing is chosen before a menu is agreed
 abbrev pub choiceFits : ℕ → Bool → Bool
-choiceFits state none = choose (early state) none true
+choiceFits state none = when (early state) none true
 
 -- how it ended, once it is over; it goes on with a choice only
 abbrev pub endedFits : ℕ → Bool → ℕ → Bool
-endedFits state none ended = choose (eqb state over) (choose (eqb ended goesOn) (not none) (between left notOffered ended)) (eqb ended going)
+endedFits state none ended = when (eqb state over) (when (eqb ended goesOn) (not none) (between left notOffered ended)) (eqb ended going)
 
 -- "session with a field outside its range" is refused with 10
 unfoldable pub inRange : Session → Bool
@@ -90,4 +94,4 @@ saysStarted (Refused r) = refusal (number r)
 
 -- "Te out of range" is refused with 10
 abbrev pub startedCaller : ℕ → ℕ → Start
-startedCaller now te = choose (isTe te) (ready (callerFrom now te)) (refusal 10)
+startedCaller now te = when (isTe te) (ready (callerFrom now te)) (refusal 10)

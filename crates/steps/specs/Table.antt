@@ -99,7 +99,7 @@ chosenItem = 4
 
 -- a line's state, its event, the milliseconds elapsed, what else it asks for, the next state, and how the session ended
 abbrev row : ℕ → ℕ → ℕ → ℕ → ℕ → ℕ → Row
-row from on least when to ended = record { 0 = from; 1 = on; 2 = least; 3 = when; 4 = to; 5 = ended }
+row state event least condition next ended = record { to = record { 0 = next; 1 = ended }; state = state; event = event; least = least; condition = condition }
 
 -- "One constant table, by state and event, is the rule."; the first row that applies counts
 unfoldable pub rows : List Row

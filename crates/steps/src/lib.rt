@@ -1,15 +1,14 @@
 // Steps: the session of an end, how it starts, and what an event changes in it.
 //
 // One constant table, by state and event, is the rule. A step tests the session, the event and the clock, and looks up the row.
-use octets::Refusal;
+use refusals::Refusal;
 ghost use mathlib.Core.Path.{_≡_};
-ghost use Prim.Native.Nat.{_+_, _<_};
-ghost use mathlib.Core.List.{_∷_};
-ghost use lib.ListN.{drop};
-ghost use Rattle.octets.specs.Refusals.{number};
+ghost use Rattle.laws.specs.Logic.{both};
+ghost use Rattle.refusals.specs.Refusals.{number};
 ghost use Rattle.steps.specs.Table.{rows};
-ghost use Rattle.steps.specs.Session.{between, isItem, isChoice, isTe, endFits, stateFits, early, choiceFits, endedFits, inRange, callerFrom, answererFrom, defaultTe, saysStarted, startedCaller};
-ghost use Rattle.steps.specs.Stepping.{says, Steps, elapsed, owns, carries, holds, applies, findRow, chosenAfter, renewed, endedAs, answerOf, entering, taken, moved, refuses, timed, steppedIn, stepped};
+ghost use Rattle.steps.specs.Session.{between, isItem, isChoice, isTe, endFits, ofEnd, stateFits, early, choiceFits, endedFits, inRange, callerFrom, answererFrom, defaultTe, saysStarted, startedCaller};
+ghost use Rattle.steps.specs.Inner.{whatHolds};
+ghost use Rattle.steps.specs.Stepping.{saysAnswer, Steps, elapsed, owns, carries, rowFits, findRow, chosenAfter, renewed, endedAs, answerOf, entering, rowTaken, moved, refusedStep, timed, steppedIn, stepped};
 
 // What an end keeps of its call, as numbers, since a host in C holds it; docs/RANGES.md says what they may be. The time of the
 // start or of the last change of state, Te, which end this is, its state, the choice, and how the session ended.
@@ -95,50 +94,189 @@ const JM_REFUSED: u8 = 3;
 
 const CHOSEN_ITEM: u8 = 4;
 
-// In this state, at this event, with so many milliseconds elapsed, where this holds: the next state, and how the session ended.
-struct Row(u8, u8, u32, u8, u8, u8);
+// Where a row leads to: the next state, and how the session ended.
+struct To(u8, u8);
+
+// In this state, at this event, with so many milliseconds elapsed, where this condition holds. What it leads to stands first: the
+// compiler then has no need to keep the table in memory (docs/SPEED.md).
+struct Row {
+    to: To,
+    state: u8,
+    event: u8,
+    least: u32,
+    condition: u8,
+}
 
 // Document 01's table. The first row that applies counts, so an exception stands before the row that it is taken from.
 const ROWS: [Row; 19] = [
     // elapsed 1,000: calling
-    Row(CALLER_STILL, TICK, 1000, ALWAYS, CALLING, GOING),
+    Row {
+        state: CALLER_STILL,
+        event: TICK,
+        least: 1000,
+        condition: ALWAYS,
+        to: To(CALLING, GOING),
+    },
     // ANSam: quiet. ANS or sigA: over, left
-    Row(CALLING, ANSAM, 0, ALWAYS, QUIET, GOING),
-    Row(CALLING, ANS, 0, ALWAYS, OVER, LEFT),
-    Row(CALLING, SIG_A, 0, ALWAYS, OVER, LEFT),
+    Row {
+        state: CALLING,
+        event: ANSAM,
+        least: 0,
+        condition: ALWAYS,
+        to: To(QUIET, GOING),
+    },
+    Row {
+        state: CALLING,
+        event: ANS,
+        least: 0,
+        condition: ALWAYS,
+        to: To(OVER, LEFT),
+    },
+    Row {
+        state: CALLING,
+        event: SIG_A,
+        least: 0,
+        condition: ALWAYS,
+        to: To(OVER, LEFT),
+    },
     // elapsed Te: menu (sends CM)
-    Row(QUIET, TICK, 0, TE_ELAPSED, MENU, GOING),
+    Row {
+        state: QUIET,
+        event: TICK,
+        least: 0,
+        condition: TE_ELAPSED,
+        to: To(MENU, GOING),
+    },
     // agreed JM: closing (sends CJ); where the choice is refused with 11: over, not offered. Elapsed 10,000: over, late
-    Row(MENU, AGREED_JM, 0, JM_REFUSED, OVER, NOT_OFFERED),
-    Row(MENU, AGREED_JM, 0, ALWAYS, CLOSING, GOING),
-    Row(MENU, TICK, 10000, ALWAYS, OVER, LATE),
+    Row {
+        state: MENU,
+        event: AGREED_JM,
+        least: 0,
+        condition: JM_REFUSED,
+        to: To(OVER, NOT_OFFERED),
+    },
+    Row {
+        state: MENU,
+        event: AGREED_JM,
+        least: 0,
+        condition: ALWAYS,
+        to: To(CLOSING, GOING),
+    },
+    Row {
+        state: MENU,
+        event: TICK,
+        least: 10000,
+        condition: ALWAYS,
+        to: To(OVER, LATE),
+    },
     // CJ sent: pause; choice none: over, cleared
-    Row(CLOSING, CJ_SENT, 0, NONE_CHOSEN, OVER, CLEARED),
-    Row(CLOSING, CJ_SENT, 0, ALWAYS, PAUSE, GOING),
+    Row {
+        state: CLOSING,
+        event: CJ_SENT,
+        least: 0,
+        condition: NONE_CHOSEN,
+        to: To(OVER, CLEARED),
+    },
+    Row {
+        state: CLOSING,
+        event: CJ_SENT,
+        least: 0,
+        condition: ALWAYS,
+        to: To(PAUSE, GOING),
+    },
     // elapsed 75: over, go on as chosen or left
-    Row(PAUSE, TICK, 75, ALWAYS, OVER, GO_ON),
+    Row {
+        state: PAUSE,
+        event: TICK,
+        least: 75,
+        condition: ALWAYS,
+        to: To(OVER, GO_ON),
+    },
     // elapsed 200: answering (sends ANSam)
-    Row(ANSWERER_STILL, TICK, 200, ALWAYS, ANSWERING, GOING),
+    Row {
+        state: ANSWERER_STILL,
+        event: TICK,
+        least: 200,
+        condition: ALWAYS,
+        to: To(ANSWERING, GOING),
+    },
     // agreed CM: joint (sends JM). sigC, or elapsed 5,000: pause, then left
-    Row(ANSWERING, AGREED_CM, 0, ALWAYS, JOINT, GOING),
-    Row(ANSWERING, SIG_C, 0, ALWAYS, PAUSE, GOING),
-    Row(ANSWERING, TICK, 5000, ALWAYS, PAUSE, GOING),
+    Row {
+        state: ANSWERING,
+        event: AGREED_CM,
+        least: 0,
+        condition: ALWAYS,
+        to: To(JOINT, GOING),
+    },
+    Row {
+        state: ANSWERING,
+        event: SIG_C,
+        least: 0,
+        condition: ALWAYS,
+        to: To(PAUSE, GOING),
+    },
+    Row {
+        state: ANSWERING,
+        event: TICK,
+        least: 5000,
+        condition: ALWAYS,
+        to: To(PAUSE, GOING),
+    },
     // CJ: pause, choice none: over, cleared. sigC of the chosen item: pause. Elapsed 10,000: over, late
-    Row(JOINT, CJ, 0, NONE_CHOSEN, OVER, CLEARED),
-    Row(JOINT, CJ, 0, ALWAYS, PAUSE, GOING),
-    Row(JOINT, SIG_C, 0, CHOSEN_ITEM, PAUSE, GOING),
-    Row(JOINT, TICK, 10000, ALWAYS, OVER, LATE),
+    Row {
+        state: JOINT,
+        event: CJ,
+        least: 0,
+        condition: NONE_CHOSEN,
+        to: To(OVER, CLEARED),
+    },
+    Row {
+        state: JOINT,
+        event: CJ,
+        least: 0,
+        condition: ALWAYS,
+        to: To(PAUSE, GOING),
+    },
+    Row {
+        state: JOINT,
+        event: SIG_C,
+        least: 0,
+        condition: CHOSEN_ITEM,
+        to: To(PAUSE, GOING),
+    },
+    Row {
+        state: JOINT,
+        event: TICK,
+        least: 10000,
+        condition: ALWAYS,
+        to: To(OVER, LATE),
+    },
 ];
 
-// Te without a value.
+// The choice none, the items, and the PCM options, which are held above 16.
+const NONE: u8 = 0;
+
+const FIRST_ITEM: u8 = 1;
+
+const LAST_ITEM: u8 = 12;
+
+const FIRST_PCM: u8 = 17;
+
+const LAST_PCM: u8 = 23;
+
+// Te, and Te without a value.
+const LEAST_TE: u32 = 500;
+
+const MOST_TE: u32 = 5000;
+
 const DEFAULT_TE: u32 = 500;
 
 // Half the range of the clock: a time that is as far away lies before.
 const HALF_RANGE: u32 = 2147483648;
 
 // What looking a row up finds.
-enum Found {
-    At(Row),
+enum RowFound {
+    At(To),
     Nothing,
 }
 
@@ -166,32 +304,26 @@ pub enum Started {
 fn is_between(low: u8, high: u8, n: u8) -> bool
     ensures { λ r. ⌜ r ≡ between low high n ⌝ }
 {
-    if low <= n { n <= high } else { false }
+    low <= n && n <= high
 }
 
 fn is_item(value: u8) -> bool
     ensures { λ r. ⌜ r ≡ isItem value ⌝ }
 {
-    is_between(1, 12, value)
+    is_between(FIRST_ITEM, LAST_ITEM, value)
 }
 
-// A choice as a number: 0 for none, an item, or 16 and the PCM options.
+// A choice as a number.
 fn is_choice(value: u8) -> bool
     ensures { λ r. ⌜ r ≡ isChoice value ⌝ }
 {
-    if value == 0 {
-        return true;
-    }
-    if is_item(value) {
-        return true;
-    }
-    is_between(17, 23, value)
+    value == NONE || (is_item(value) || is_between(FIRST_PCM, LAST_PCM, value))
 }
 
 fn is_te(te: u32) -> bool
     ensures { λ r. ⌜ r ≡ isTe te ⌝ }
 {
-    if 500 <= te { te <= 5000 } else { false }
+    LEAST_TE <= te && te <= MOST_TE
 }
 
 // Which end this is, and its Te; the answerer has none.
@@ -201,32 +333,30 @@ fn end_fits(end: u8, te: u32) -> bool
     if end == CALLER {
         return is_te(te);
     }
-    if end == ANSWERER {
-        return te == 0;
+    end == ANSWERER && te == 0
+}
+
+// A number from low to high at the caller, and from least to most at the answerer.
+fn is_of_end(end: u8, low: u8, high: u8, least: u8, most: u8, n: u8) -> bool
+    ensures { λ r. ⌜ r ≡ ofEnd end low high least most n ⌝ }
+{
+    if end == CALLER {
+        return is_between(low, high, n);
     }
-    false
+    is_between(least, most, n)
 }
 
 fn state_fits(end: u8, state: u8) -> bool
     ensures { λ r. ⌜ r ≡ stateFits end state ⌝ }
 {
-    if state == OVER {
-        return true;
-    }
-    if end == CALLER {
-        return is_between(CALLER_STILL, PAUSE, state);
-    }
-    is_between(PAUSE, JOINT, state)
+    state == OVER || is_of_end(end, CALLER_STILL, PAUSE, PAUSE, JOINT, state)
 }
 
 // A state before a menu is agreed.
 fn is_early(state: u8) -> bool
     ensures { λ r. ⌜ r ≡ early state ⌝ }
 {
-    if state < CLOSING {
-        return true;
-    }
-    is_between(ANSWERER_STILL, ANSWERING, state)
+    state < CLOSING || is_between(ANSWERER_STILL, ANSWERING, state)
 }
 
 fn choice_fits(state: u8, none: bool) -> bool
@@ -254,20 +384,11 @@ fn in_range(session: Session) -> bool
     ensures { λ r. ⌜ r ≡ inRange session ⌝ }
 {
     let state = session.state;
-    let none = session.chosen == 0;
-    if end_fits(session.end, session.te) {
-        if state_fits(session.end, state) {
-            if is_choice(session.chosen) {
-                if choice_fits(state, none) {
-                    return ended_fits(state, none, session.ended);
-                }
-                return false;
-            }
-            return false;
-        }
-        return false;
-    }
-    false
+    let none = session.chosen == NONE;
+    end_fits(session.end, session.te)
+        && (state_fits(session.end, state)
+            && (is_choice(session.chosen)
+                && (choice_fits(state, none) && ended_fits(state, none, session.ended))))
 }
 
 fn caller_from(start: u32, te: u32) -> Session
@@ -278,7 +399,7 @@ fn caller_from(start: u32, te: u32) -> Session
         te: te,
         end: CALLER,
         state: CALLER_STILL,
-        chosen: 0,
+        chosen: NONE,
         ended: GOING,
     }
 }
@@ -308,7 +429,7 @@ pub fn start_answerer(start: u32) -> Session
         te: 0,
         end: ANSWERER,
         state: ANSWERER_STILL,
-        chosen: 0,
+        chosen: NONE,
         ended: GOING,
     }
 }
@@ -323,13 +444,7 @@ fn since(now: u32, entry: u32) -> u32
 fn is_own(end: u8, event: u8) -> bool
     ensures { λ r. ⌜ r ≡ owns end event ⌝ }
 {
-    if event == TICK {
-        return true;
-    }
-    if end == CALLER {
-        return is_between(ANSAM, CJ_SENT, event);
-    }
-    is_between(AGREED_CM, CJ, event)
+    event == TICK || is_of_end(end, ANSAM, CJ_SENT, AGREED_CM, CJ, event)
 }
 
 // Whether an event may carry this value. Events that carry nothing have no value to be tested.
@@ -337,10 +452,7 @@ fn may_carry(event: u8, value: u8) -> bool
     ensures { λ r. ⌜ r ≡ carries event value ⌝ }
 {
     if event == AGREED_JM {
-        if value == REFUSED_WITH_11 {
-            return true;
-        }
-        return is_choice(value);
+        return value == REFUSED_WITH_11 || is_choice(value);
     }
     if event == AGREED_CM {
         return is_choice(value);
@@ -351,58 +463,53 @@ fn may_carry(event: u8, value: u8) -> bool
     true
 }
 
-fn does_hold(when: u8, session: Session, value: u8, passed: u32) -> bool
-    ensures { λ r. ⌜ r ≡ holds when session value passed ⌝ }
+// An event of this end, with a value that it may carry.
+fn may_take(end: u8, event: u8, value: u8) -> bool
+    ensures { λ r. ⌜ r ≡ both (owns end event) (carries event value) ⌝ }
 {
-    if when == TE_ELAPSED {
-        return session.te <= passed;
-    }
-    if when == NONE_CHOSEN {
-        return session.chosen == 0;
-    }
-    if when == JM_REFUSED {
-        return value == REFUSED_WITH_11;
-    }
-    if when == CHOSEN_ITEM {
-        return value == session.chosen;
-    }
-    true
+    is_own(end, event) && may_carry(event, value)
 }
 
-fn row_applies(row: Row, session: Session, event: u8, value: u8, passed: u32) -> bool
-    ensures { λ r. ⌜ r ≡ applies session event value passed row ⌝ }
+// What each condition comes to, by its number.
+fn what_holds(session: Session, value: u8, passed: u32) -> [bool; 5]
+    ensures { λ r. ⌜ r ≡ whatHolds session value passed ⌝ }
 {
-    if row.0 == session.state {
-        if row.1 == event {
-            if row.2 <= passed {
-                return does_hold(row.3, session, value, passed);
-            }
-            return false;
-        }
-        return false;
-    }
-    false
+    [
+        true,
+        session.te <= passed,
+        session.chosen == NONE,
+        value == REFUSED_WITH_11,
+        value == session.chosen,
+    ]
 }
 
-fn row_at(i: usize) -> Row
-    requires { ⌜ i < 19 ⌝ }
-    ensures { λ r. ⌜ drop i rows ≡ r ∷ drop (i + 1) rows ⌝ }
+fn row_applies(row: Row, state: u8, event: u8, passed: u32, holding: bool) -> bool
+    ensures { λ r. ⌜ r ≡ rowFits row state event passed holding ⌝ }
 {
-    ROWS[i]
+    row.state == state && (row.event == event && (row.least <= passed && holding))
 }
 
-fn find_row(session: Session, event: u8, value: u8, passed: u32) -> Found
+fn find_row(session: Session, event: u8, value: u8, passed: u32) -> RowFound
     ensures { λ r. ⌜ r ≡ findRow session event value passed rows ⌝ }
 {
+    let table = ROWS;
+    let holding = what_holds(session, value, passed);
     let mut i: usize = 0;
     while i < 19 {
-        let row = row_at(i);
-        if row_applies(row, session, event, value, passed) {
-            return Found::At(row);
+        let row = table[i];
+        if row_applies(
+            row,
+            session.state,
+            event,
+            passed,
+            holding[row.condition as usize],
+        ) {
+            let to = row.to;
+            return RowFound::At(to);
         }
         i += 1;
     }
-    Found::Nothing
+    RowFound::Nothing
 }
 
 // The choice once an event is taken: an agreed menu brings one.
@@ -411,7 +518,7 @@ fn choice_after(event: u8, value: u8, chosen: u8) -> u8
 {
     if event == AGREED_JM {
         if value == REFUSED_WITH_11 {
-            return 0;
+            return NONE;
         }
         return value;
     }
@@ -440,7 +547,7 @@ fn ending_of(ended: u8, chosen: u8) -> u8
     ensures { λ r. ⌜ r ≡ endedAs ended chosen ⌝ }
 {
     if ended == GO_ON {
-        if chosen == 0 {
+        if chosen == NONE {
             return LEFT;
         }
         return GO_ON;
@@ -449,7 +556,7 @@ fn ending_of(ended: u8, chosen: u8) -> u8
 }
 
 fn answer_of(state: u8, ended: u8, chosen: u8) -> Answer
-    ensures { λ r. ⌜ says r ≡ answerOf state ended chosen ⌝ }
+    ensures { λ r. ⌜ saysAnswer r ≡ answerOf state ended chosen ⌝ }
 {
     if state == OVER {
         if ended == GO_ON {
@@ -476,10 +583,10 @@ fn enter(session: Session, state: u8, ended: u8) -> Stepped
     }
 }
 
-fn take(session: Session, state: u8, ended: u8) -> Stepped
-    ensures { λ r. ⌜ Steps (taken session state ended) r ⌝ }
+fn take_row(session: Session, to: To) -> Stepped
+    ensures { λ r. ⌜ Steps (rowTaken session to) r ⌝ }
 {
-    enter(session, state, ending_of(ended, session.chosen))
+    enter(session, to.0, ending_of(to.1, session.chosen))
 }
 
 // The row that applies is taken; where none does, nothing changes.
@@ -487,17 +594,17 @@ fn step_on(session: Session, event: u8, value: u8, now: u32, passed: u32) -> Ste
     ensures { λ r. ⌜ Steps (moved session event value now (findRow session event value passed rows)) r ⌝ }
 {
     let found = find_row(session, event, value, passed);
-    let Found::At(row) = found else {
+    let RowFound::At(to) = found else {
         return Stepped {
             session: session,
             answer: Answer::Same,
         };
     };
-    take(renew(session, event, value, now), row.4, row.5)
+    take_row(renew(session, event, value, now), to)
 }
 
-fn refuse(session: Session, refusal: Refusal) -> Stepped
-    ensures { λ r. ⌜ Steps (refuses (number refusal) session) r ⌝ }
+fn refuse_step(session: Session, refusal: Refusal) -> Stepped
+    ensures { λ r. ⌜ Steps (refusedStep (number refusal) session) r ⌝ }
 {
     Stepped {
         session: session,
@@ -505,7 +612,7 @@ fn refuse(session: Session, refusal: Refusal) -> Stepped
     }
 }
 
-// An event of this end, with a value that it may carry.
+// An event that this end may take.
 fn step_timed(session: Session, event: u8, value: u8, now: u32) -> Stepped
     ensures { λ r. ⌜ Steps (timed session event value now) r ⌝ }
 {
@@ -513,7 +620,7 @@ fn step_timed(session: Session, event: u8, value: u8, now: u32) -> Stepped
     if passed < HALF_RANGE {
         return step_on(session, event, value, now, passed);
     }
-    refuse(session, Refusal::Clock)
+    refuse_step(session, Refusal::Clock)
 }
 
 // A session in range.
@@ -521,15 +628,12 @@ fn step_in(session: Session, event: u8, value: u8, now: u32) -> Stepped
     ensures { λ r. ⌜ Steps (steppedIn session event value now) r ⌝ }
 {
     if session.state == OVER {
-        return refuse(session, Refusal::AfterOver);
+        return refuse_step(session, Refusal::AfterOver);
     }
-    if is_own(session.end, event) {
-        if may_carry(event, value) {
-            return step_timed(session, event, value, now);
-        }
-        return refuse(session, Refusal::WrongEvent);
+    if may_take(session.end, event, value) {
+        return step_timed(session, event, value, now);
     }
-    refuse(session, Refusal::WrongEvent)
+    refuse_step(session, Refusal::WrongEvent)
 }
 
 // An event, what it carries, and its time. A choice is carried as the session holds it, REFUSED_WITH_11 by an agreed JM alone; sigC
@@ -540,5 +644,5 @@ pub fn step(session: Session, event: u8, value: u8, now: u32) -> Stepped
     if in_range(session) {
         return step_in(session, event, value, now);
     }
-    refuse(session, Refusal::BadRecord)
+    refuse_step(session, Refusal::BadRecord)
 }

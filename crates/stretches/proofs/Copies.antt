@@ -1,4 +1,5 @@
--- The round trip: copies of an accepted message with ten 1s behind them. A fresh reader reports each copy, and nothing else.
+-- Copies of an accepted message with ten 1s behind them: a fresh reader reports each copy, and nothing else. Each copy's ten 1s end the copy
+-- before it, and the ten 1s behind them the last; CJ stands nowhere in them, so a reader that does not listen for it makes the same of them.
 -- Assumes nothing.
 use Prim.Native.Nat.{ℕ, zero, suc, _≤_, _+_}
 use native.Mathlib.Omega.{arith}
@@ -9,20 +10,20 @@ use borrow.Author.Tests.{eqb-true}
 use lib.Dec.{eqb, lit<}
 use lib.ListN.{length, take, drop, replicate}
 use lib.Seq.{take-at}
-use Rattle.laws.specs.Choice.{choose}
+use Rattle.laws.specs.Logic.{when}
 use Rattle.laws.specs.Front.{front}
 use Rattle.octets.specs.declared.Kind.{Kind}
 use Rattle.octets.specs.declared.Purpose.the-variants.{Writing}
-use Rattle.octets.specs.Lists.{before, listFault}
+use Rattle.refusals.specs.Refusals.{before}
+use Rattle.octets.specs.Lists.{listFault}
 use Rattle.sequences.specs.Line.{framedAll, tenOnes, sync, sequence, copies, cj}
 use Rattle.sequences.proofs.Lines.{copies-more}
-use Rattle.octets.specs.Lent.{count, refusal, Outcome, roomFault, put}
+use Rattle.refusals.specs.Lent.{count, refusal, WriteOutcome, roomFault, put}
 use Rattle.sequences.specs.Writing.{written}
 use Rattle.listening.specs.declared.Listener.{Listener}
 use Rattle.listening.specs.Record.{empty, fresh}
-use Rattle.stretches.specs.Stretch.{octetsAll, Accepted, Nowhere}
+use Rattle.stretches.specs.Stretch.{octetsAll, AcceptedMessage, Nowhere}
 use Rattle.stretches.specs.Hearing.{Report, message, reports}
-use Rattle.stretches.specs.Demand.{RoundTrip}
 use Rattle.stretches.proofs.Each.{Each, none, more, each-append, Bits}
 use Rattle.stretches.proofs.Standing.{nowhere-left}
 use Rattle.octets.proofs.Lists.{before-none}
@@ -32,14 +33,14 @@ use Rattle.stretches.proofs.Plain.{plain, after, fresh-plain}
 use Rattle.stretches.proofs.Sequences.{Goes, goes-on, here, Idle, Primed, Held, ones-bits, sync-bits, framed-bits, ones-idle, ones-held, idle-sequence, held-sequence}
 
 pub fresh-idle : Idle fresh
-fresh-idle = record { p = 0; m = empty; place = here 0 empty; small = lit< tt; full = refl }
+fresh-idle = record { past = 0; msg = empty; place = here 0 empty; small = lit< tt; full = refl }
 
 -- one more at the end
 replicate-more : (n : ℕ) (r : Report) → replicate n r ++ r ∷ [] ≡ replicate (suc n) r
 replicate-more zero r = refl
 replicate-more (suc n) r = ap (λ (l : List Report). r ∷ l) (replicate-more n r)
 
-module _ (kind : Kind) (octets : List ℕ) (accepted : Accepted kind octets) where
+module _ (kind : Kind) (octets : List ℕ) (accepted : AcceptedMessage kind octets) where
   sound : Each Sound octets
   sound = accepted-sound kind octets accepted
 
@@ -53,7 +54,7 @@ module _ (kind : Kind) (octets : List ℕ) (accepted : Accepted kind octets) whe
   octets-bits : (bs : List ℕ) → Each Sound bs → Bits (framedAll bs)
   unfolding framedAll
   octets-bits [] none = none
-  octets-bits (b ∷ bs) (more s ss) = each-append (framed-bits b (s .small)) (octets-bits bs ss)
+  octets-bits (b ∷ bs) (more sound sounds) = each-append (framed-bits b (sound .small)) (octets-bits bs sounds)
 
   pub line-bits : Bits (sequence kind octets)
   unfolding sequence
@@ -69,13 +70,13 @@ module _ (kind : Kind) (octets : List ℕ) (accepted : Accepted kind octets) whe
 
   pub later-copies : (n : ℕ) (rec : Listener) → Held kind octets rec → Goes rec (copies n line) (replicate n (message kind octets)) (Held kind octets)
   unfolding copies plain after
-  later-copies zero rec h = record { tells = refl; leaves = h }
-  later-copies (suc n) rec h = goes-on (held-sequence kind octets sound room kind octets rec h) (later-copies n)
+  later-copies zero rec held = record { tells = refl; leaves = held }
+  later-copies (suc n) rec held = goes-on (held-sequence kind octets sound room kind octets rec held) (later-copies n)
 
   all-copies : (n : ℕ) (rec : Listener) → Idle rec → Goes rec (copies n line ++ tenOnes) (replicate n (message kind octets)) Primed
   unfolding copies
-  all-copies zero rec i = ones-idle rec i
-  all-copies (suc n) rec i = rw (← (replicate-more n (message kind octets))) (goes-on (goes-on (first-copy rec i) (later-copies n)) (ones-held kind octets))
+  all-copies zero rec idle = ones-idle rec idle
+  all-copies (suc n) rec idle = rw (← (replicate-more n (message kind octets))) (goes-on (goes-on (first-copy rec idle) (later-copies n)) (ones-held kind octets))
 
   -- the ten 1s behind the copies open one more
   no-cj-behind : (n : ℕ) → Nowhere cj (copies n line ++ tenOnes)
@@ -84,27 +85,24 @@ module _ (kind : Kind) (octets : List ℕ) (accepted : Accepted kind octets) whe
       let one-more : copies (n + 1) line ≡ copies n line ++ tenOnes ++ (sync kind ++ framedAll octets) = copies-more n line ∙ simp append-assoc in
       nowhere-left cj (copies n line ++ tenOnes) (sync kind ++ framedAll octets) (subst (Nowhere cj) one-more (no-cj kind octets sound (n + 1)))
 
-  pub copied : (n : ℕ) → reports fresh (copies n (sequence kind octets) ++ tenOnes) ≡ replicate n (message kind octets)
-  copied n = fresh-plain (copies n line ++ tenOnes) (each-append (copies-bits n) ones-bits) (no-cj-behind n) ∙ all-copies n fresh fresh-idle .tells
+  pub copies-read : (n : ℕ) → reports fresh (copies n (sequence kind octets) ++ tenOnes) ≡ replicate n (message kind octets)
+  copies-read n = fresh-plain (copies n line ++ tenOnes) (each-append (copies-bits n) ones-bits) (no-cj-behind n) ∙ all-copies n fresh fresh-idle .tells
 
 -- where the writer says how many bits it wrote, these stand at the front of its buffer
-abbrev laidDown : Bool → ℕ → List ℕ → List ℕ → Outcome
-laidDown fine f line out = choose fine (record { answer = count (length line); buffer = front line out }) (record { answer = refusal f; buffer = out })
+abbrev laidDown : Bool → ℕ → List ℕ → List ℕ → WriteOutcome
+laidDown fine f line out = when fine (record { answer = count (length line); buffer = front line out }) (record { answer = refusal f; buffer = out })
 
 by-fault : (f : ℕ) (line out : List ℕ) (size : ℕ) (fine : Bool) → laidDown fine f line out .answer ≡ count size → (fine ≡ true) × (take size (laidDown fine f line out .buffer) ≡ line)
-unfolding choose
+unfolding when
 by-fault f line out size true e = (refl, take-at line (drop (length line) out) size (cc))
 by-fault f line out size false e = let z : _≡_ {A = ℕ} 0 1 = cc in absurd (let w : ⊥ = omega arith in w)
 
-pub buffered : (kind : Kind) (octets : List ℕ) (n : ℕ) (out : List ℕ) (size : ℕ) → octetsAll octets ≡ true → written kind octets n out .answer ≡ count size
+pub buffer-read : (kind : Kind) (octets : List ℕ) (n : ℕ) (out : List ℕ) (size : ℕ) → octetsAll octets ≡ true → written kind octets n out .answer ≡ count size
     → reports fresh (take size (written kind octets n out .buffer) ++ tenOnes) ≡ replicate n (message kind octets)
 unfolding put
-buffered kind octets n out size small e =
+buffer-read kind octets n out size small e =
     let line = copies n (sequence kind octets) in
     let f = before (listFault (Writing kind) octets) (roomFault line out) in
     let wrote = by-fault f line out size (eqb f 0) e in
     let fine = before-none (listFault (Writing kind) octets) (roomFault line out) (eqb-true f 0 (wrote .0)) in
-    ap (λ (l : List ℕ). reports fresh (l ++ tenOnes)) (wrote .1) ∙ copied kind octets (record { octet = small; taken = fine .0 }) n
-
-pub round-trip : RoundTrip
-round-trip = record { copied = λ kind octets n a. copied kind octets a n; buffered = buffered }
+    ap (λ (l : List ℕ). reports fresh (l ++ tenOnes)) (wrote .1) ∙ copies-read kind octets (record { octet = small; taken = fine .0 }) n

@@ -1,4 +1,5 @@
--- Stretches of any line: which bits they have; and that the line without its first bits comes first, and whole copies behind it.
+-- Stretches of any line: which bits they have; and that the line without its first bits comes first, and whole copies behind it. By
+-- induction over the copies: a bit, or the cut, is in the first of them, or as much later as the line is long.
 -- Assumes nothing.
 use Prim.Native.Nat.{ℕ, zero, suc, _<_, _≤_, _+_, _-_, _%_}
 use native.Mathlib.Nat.{mod-eq-of-lt, add-mod-left, mul-le-mul-left}
@@ -42,8 +43,8 @@ module _ (line : List ℕ) (some : 0 < length line) where
   pub enough : (cut n : ℕ) → n ≤ length (drop cut (copies (cut + n) line))
   enough cut n = omega (arith, length-drop cut (copies (cut + n) line), copies-length (cut + n) line, mul-le-mul-left (cut + n) some)
 
-  pub endless : (cut n : ℕ) → Endless line cut n
-  endless cut n = record {
+  pub stretch-is-endless : (cut n : ℕ) → Endless line cut n
+  stretch-is-endless cut n = record {
     size = length-take-le n (drop cut (copies (cut + n) line)) (enough cut n);
     bit = λ i h.
         getD-take n (drop cut (copies (cut + n) line)) i 0 h ∙ getD-drop cut (copies (cut + n) line) i 0
@@ -61,10 +62,10 @@ module _ (line : List ℕ) (some : 0 < length line) where
   cut-first n cut h = record { lost = cut; whole = n; few = h; is = drop-append-le (suc cut) line (copies n line) h }
 
   cut-later : (n cut : ℕ) → length line ≤ cut → Cut line (drop (cut - length line) (copies n line)) → Cut line (drop cut (line ++ copies n line))
-  cut-later n cut h c =
+  cut-later n cut past-it behind =
       let far : cut ≡ length line + (cut - length line) = omega arith in
       let moved : drop cut (line ++ copies n line) ≡ drop (cut - length line) (copies n line) = ap (λ (k : ℕ). drop k (line ++ copies n line)) far ∙ drop-append-add line (copies n line) (cut - length line) in
-      record { lost = c .lost; whole = c .whole; few = c .few; is = moved ∙ c .is }
+      record { lost = behind .lost; whole = behind .whole; few = behind .few; is = moved ∙ behind .is }
 
   by-place : (n cut : ℕ) (t : Bool) → ltb cut (length line) ≡ t → ((c : ℕ) → Cut line (drop c (copies n line))) → Cut line (drop (suc cut) (line ++ copies n line))
   by-place n cut true e later = cut-first n cut (ltb-true cut (length line) e)

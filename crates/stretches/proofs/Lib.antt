@@ -8,4 +8,4 @@ pub mod Sequences
 pub mod Copies
 pub mod Hunting
 pub mod Cuts
-pub mod Demand
+pub mod Reading

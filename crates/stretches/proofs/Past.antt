@@ -1,4 +1,5 @@
--- The past of an ear, a number, holds the bits last heard: ten of them, and thirty.
+-- The past of an ear, a number, holds the bits last heard: ten of them, and thirty. Each bit comes on top of the number and the lowest goes,
+-- as it does in a list that loses its first entry and gets one behind.
 -- Assumes nothing.
 use Prim.Native.Nat.{ℕ, zero, suc, _<_, _≤_, _+_, _*_, _-_, _/_, _%_, _^_}
 use native.Mathlib.Omega.{arith}
@@ -12,13 +13,13 @@ use lib.Seq.{drop-append-add, getD-drop}
 use Rattle.sequences.specs.Line.{framed, framedAll, tenOnes, cj}
 use Rattle.framing.specs.Framing.{pushed, lastTen}
 use Rattle.framing.proofs.Words.{hearing}
-use Rattle.leaps.specs.Leaps.{value}
+use Rattle.framing.specs.Framing.{value}
 use Rattle.leaps.proofs.Spans.{hearing-number}
 use Rattle.stretches.proofs.Each.{none, more, Bits}
 
 -- a past is a number of 32 bits
 abbrev pub Small : ℕ → Type 0
-Small p = p < 4294967296
+Small past = past < 4294967296
 
 -- the lowest bits of a number, lowest first
 unfoldable lows : ℕ → ℕ → List ℕ
@@ -33,78 +34,78 @@ lows-length (suc n) x = ap suc (lows-length n (x / 2))
 -- one bit on top
 lows-top : (n y b : ℕ) → y < 2 ^ n → b < 2 → lows (suc n) (y + b * 2 ^ n) ≡ lows n y ++ b ∷ []
 unfolding lows
-lows-top zero y b h k = ap (λ (x : ℕ). x ∷ []) (omega arith)
-lows-top (suc n) y b h k =
+lows-top zero y b y-small b-small = ap (λ (x : ℕ). x ∷ []) (omega arith)
+lows-top (suc n) y b y-small b-small =
     let twice : b * 2 ^ suc n ≡ b * (2 * 2 ^ n) = ap (λ (x : ℕ). b * x) (omega arith) in
     let low : (y + b * 2 ^ suc n) % 2 ≡ y % 2 = omega arith in
     let high : (y + b * 2 ^ suc n) / 2 ≡ y / 2 + b * 2 ^ n = omega arith in
-    ap₂ _∷_ low (ap (lows (suc n)) high ∙ lows-top n (y / 2) b (omega arith) k)
+    ap₂ _∷_ low (ap (lows (suc n)) high ∙ lows-top n (y / 2) b (omega arith) b-small)
 
-pushed-small : (p b : ℕ) → Small p → b < 2 → Small (pushed p b)
-pushed-small p b h k = omega arith
+pushed-small : (past b : ℕ) → Small past → b < 2 → Small (pushed past b)
+pushed-small past b past-small b-small = omega arith
 
-pub hearing-small : (p : ℕ) (q : List ℕ) → Small p → Bits q → Small (hearing p q)
-hearing-small p [] h none = h
-hearing-small p (b ∷ q) h (more low bits) = hearing-small (pushed p b) q (pushed-small p b h low) bits
+pub hearing-small : (past : ℕ) (heard : List ℕ) → Small past → Bits heard → Small (hearing past heard)
+hearing-small past [] past-small none = past-small
+hearing-small past (b ∷ heard) past-small (more low bits) = hearing-small (pushed past b) heard (pushed-small past b past-small low) bits
 
-pub hearing-append : (p : ℕ) (a b : List ℕ) → hearing p (a ++ b) ≡ hearing (hearing p a) b
-hearing-append p [] b = refl
-hearing-append p (bit ∷ a) b = hearing-append (pushed p bit) a b
+pub hearing-append : (past : ℕ) (a b : List ℕ) → hearing past (a ++ b) ≡ hearing (hearing past a) b
+hearing-append past [] b = refl
+hearing-append past (bit ∷ a) b = hearing-append (pushed past bit) a b
 
 -- a part of the past into which each bit comes on top
-module _ (k : ℕ) (part : ℕ → ℕ) (shifts : (p b : ℕ) → part (pushed p b) ≡ part p / 2 + b * 2 ^ k) (small : (p : ℕ) → Small p → part p < 2 ^ suc k) where
-  part-heard : (p : ℕ) (q : List ℕ) → Small p → Bits q → lows (suc k) (part (hearing p q)) ≡ drop (length q) (lows (suc k) (part p) ++ q)
+module _ (top : ℕ) (part : ℕ → ℕ) (shifts : (past b : ℕ) → part (pushed past b) ≡ part past / 2 + b * 2 ^ top) (small : (past : ℕ) → Small past → part past < 2 ^ suc top) where
+  part-heard : (past : ℕ) (heard : List ℕ) → Small past → Bits heard → lows (suc top) (part (hearing past heard)) ≡ drop (length heard) (lows (suc top) (part past) ++ heard)
   unfolding lows
-  part-heard p [] h none = sym (append-nil (lows (suc k) (part p)))
-  part-heard p (b ∷ q) h (more low bits) =
-      let top : lows (suc k) (part (pushed p b)) ≡ lows k (part p / 2) ++ b ∷ [] = ap (lows (suc k)) (shifts p b) ∙ lows-top k (part p / 2) b (omega (arith, small p h)) low in
-      part-heard (pushed p b) q (pushed-small p b h low) bits
-      ∙ ap (λ (l : List ℕ). drop (length q) (l ++ q)) top
-      ∙ ap (drop (length q)) (append-assoc (lows k (part p / 2)) (b ∷ []) q)
+  part-heard past [] past-small none = sym (append-nil (lows (suc top) (part past)))
+  part-heard past (b ∷ heard) past-small (more low bits) =
+      let on-top : lows (suc top) (part (pushed past b)) ≡ lows top (part past / 2) ++ b ∷ [] = ap (lows (suc top)) (shifts past b) ∙ lows-top top (part past / 2) b (omega (arith, small past past-small)) low in
+      part-heard (pushed past b) heard (pushed-small past b past-small low) bits
+      ∙ ap (λ (l : List ℕ). drop (length heard) (l ++ heard)) on-top
+      ∙ ap (drop (length heard)) (append-assoc (lows top (part past / 2)) (b ∷ []) heard)
 
 -- the last ten and the last thirty
-last-ten : (p : ℕ) (q : List ℕ) → Small p → Bits q → lows 10 (lastTen (hearing p q)) ≡ drop (length q) (lows 10 (lastTen p) ++ q)
-last-ten = part-heard 9 lastTen (λ p b. omega arith) (λ p h. omega arith)
+last-ten : (past : ℕ) (heard : List ℕ) → Small past → Bits heard → lows 10 (lastTen (hearing past heard)) ≡ drop (length heard) (lows 10 (lastTen past) ++ heard)
+last-ten = part-heard 9 lastTen (λ past b. omega arith) (λ past h. omega arith)
 
-last-thirty : (p : ℕ) (q : List ℕ) → Small p → Bits q → lows 30 (hearing p q / 4) ≡ drop (length q) (lows 30 (p / 4) ++ q)
-last-thirty = part-heard 29 (λ (p : ℕ). p / 4) (λ p b. omega arith) (λ p h. omega arith)
+last-thirty : (past : ℕ) (heard : List ℕ) → Small past → Bits heard → lows 30 (hearing past heard / 4) ≡ drop (length heard) (lows 30 (past / 4) ++ heard)
+last-thirty = part-heard 29 (λ (past : ℕ). past / 4) (λ past b. omega arith) (λ past h. omega arith)
 
 -- ten bits, whatever was heard before
-pub ten-heard : (p : ℕ) (w : List ℕ) → Small p → length w ≡ 10 → lastTen (hearing p w) ≡ value w
-ten-heard p w h ten =
-    let number = hearing-number w p 4194304 (ap (λ (n : ℕ). 4194304 * 2 ^ n) ten) ∙ ap (λ (n : ℕ). p / 2 ^ n + value w * 4194304) ten in
+pub ten-heard : (past : ℕ) (w : List ℕ) → Small past → length w ≡ 10 → lastTen (hearing past w) ≡ value w
+ten-heard past w past-small ten =
+    let number = hearing-number w past 4194304 (ap (λ (n : ℕ). 4194304 * 2 ^ n) ten) ∙ ap (λ (n : ℕ). past / 2 ^ n + value w * 4194304) ten in
     omega (arith, number)
 
 -- a list behind as many bits as it is long
-behind : (n x : ℕ) (q : List ℕ) → n ≤ length q → drop (length q) (lows n x ++ q) ≡ drop (length q - n) q
-behind n x q h =
-    let split : length q ≡ length (lows n x) + (length q - n) = omega (arith, lows-length n x) in
-    ap (λ (k : ℕ). drop k (lows n x ++ q)) split ∙ drop-append-add (lows n x) q (length q - n)
+behind : (n x : ℕ) (heard : List ℕ) → n ≤ length heard → drop (length heard) (lows n x ++ heard) ≡ drop (length heard - n) heard
+behind n x heard h =
+    let split : length heard ≡ length (lows n x) + (length heard - n) = omega (arith, lows-length n x) in
+    ap (λ (size : ℕ). drop size (lows n x ++ heard)) split ∙ drop-append-add (lows n x) heard (length heard - n)
 
 -- the bits that end in this word
 abbrev pub Ends : List ℕ → List ℕ → Type 0
-Ends word q = (before : List ℕ) × (before ++ word ≡ q)
+Ends word heard = (before : List ℕ) × (before ++ word ≡ heard)
 
-ends : (n : ℕ) (word q : List ℕ) → drop (length q - n) q ≡ word → Ends word q
-ends n word q e = (take (length q - n) q, ap (λ (l : List ℕ). take (length q - n) q ++ l) (sym e) ∙ take-append-drop (length q - n) q)
+ends : (n : ℕ) (word heard : List ℕ) → drop (length heard - n) heard ≡ word → Ends word heard
+ends n word heard e = (take (length heard - n) heard, ap (λ (l : List ℕ). take (length heard - n) heard ++ l) (sym e) ∙ take-append-drop (length heard - n) heard)
 
 -- thirty bits that make CJ's number are CJ
-pub cj-heard : (q : List ℕ) → Bits q → 30 ≤ length q → hearing 0 q / 4 ≡ 537395712 → Ends cj q
+pub cj-heard : (heard : List ℕ) → Bits heard → 30 ≤ length heard → hearing 0 heard / 4 ≡ value cj → Ends cj heard
 unfolding lows cj framedAll framed
-cj-heard q bits h e = ends 30 cj q (sym (behind 30 0 q h) ∙ sym (last-thirty 0 q (lit< tt) bits) ∙ ap (lows 30) e)
+cj-heard heard bits h e = ends 30 cj heard (sym (behind 30 0 heard h) ∙ sym (last-thirty 0 heard (lit< tt) bits) ∙ ap (lows 30) e)
 
 -- ten bits that make the number of ten 1s are ten 1s, and were heard: a past without ten bits holds a 0
-pub ones-heard : (q : List ℕ) → Bits q → lastTen (hearing 0 q) ≡ 1023 → Ends tenOnes q
+pub ones-heard : (heard : List ℕ) → Bits heard → lastTen (hearing 0 heard) ≡ value tenOnes → Ends tenOnes heard
 unfolding lows
-ones-heard q bits e = by-length (ltb (length q) 10) refl
+ones-heard heard bits e = by-length (ltb (length heard) 10) refl
   where
-    ones : drop (length q) (lows 10 0 ++ q) ≡ tenOnes
-    ones = sym (last-ten 0 q (lit< tt) bits) ∙ ap (lows 10) e
+    ones : drop (length heard) (lows 10 0 ++ heard) ≡ tenOnes
+    ones = sym (last-ten 0 heard (lit< tt) bits) ∙ ap (lows 10) e
 
-    by-length : (t : Bool) → ltb (length q) 10 ≡ t → Ends tenOnes q
+    by-length : (t : Bool) → ltb (length heard) 10 ≡ t → Ends tenOnes heard
     by-length true s =
-        let short = ltb-true (length q) 10 s in
-        let zero-first : getD (drop (length q) (lows 10 0 ++ q)) 0 1 ≡ 0 =
-        getD-drop (length q) (lows 10 0 ++ q) 0 1 ∙ List·getD-append (lows 10 0) q 1 (length q + 0) (omega arith) ∙ getD-replicate 10 (length q + 0) 0 1 (omega arith) in
+        let short = ltb-true (length heard) 10 s in
+        let zero-first : getD (drop (length heard) (lows 10 0 ++ heard)) 0 1 ≡ 0 =
+        getD-drop (length heard) (lows 10 0 ++ heard) 0 1 ∙ List·getD-append (lows 10 0) heard 1 (length heard + 0) (omega arith) ∙ getD-replicate 10 (length heard + 0) 0 1 (omega arith) in
         absurd (omega (arith, sym zero-first ∙ ap (λ (l : List ℕ). getD l 0 1) ones))
-    by-length false s = ends 10 tenOnes q (sym (behind 10 0 q (ltb-false (length q) 10 s)) ∙ ones)
+    by-length false s = ends 10 tenOnes heard (sym (behind 10 0 heard (ltb-false (length heard) 10 s)) ∙ ones)

@@ -1,4 +1,5 @@
--- A reader of bits in which CJ stands nowhere: its reports are those of a reader that does not listen for CJ.
+-- A reader of bits in which CJ stands nowhere: its reports are those of a reader that does not listen for CJ. Invariant: `Since`, its past
+-- holds the bits so far, so where the test for CJ holds they end in CJ.
 -- Assumes nothing.
 use Prim.Native.Nat.{ℕ, _<_, _≤_, _+_, _/_}
 use native.Mathlib.Omega.{arith}
@@ -8,14 +9,14 @@ use mathlib.Core.List.{List, [], _∷_, _++_, append-assoc}
 use borrow.Author.Tests.{le-ltb, eqb-true}
 use lib.Dec.{ltb, lit≤}
 use lib.ListN.{length, length-append}
-use Rattle.laws.specs.Choice.{choose}
-use Rattle.laws.proofs.Chosen.{chosen, both-true}
+use Rattle.laws.specs.Logic.{when}
+use Rattle.laws.proofs.Logic.{either-way, both-true}
 use Rattle.sequences.specs.Line.{cj}
 use Rattle.listening.specs.declared.Message.{Message}
 use Rattle.listening.specs.declared.Listener.{Listener}
-use Rattle.framing.specs.Framing.{pushed, more, isCj, turned, steppedTo, stepped}
+use Rattle.framing.specs.Framing.{pushed, more, isCj, placed, turnedTo, turned}
 use Rattle.listening.specs.Hearing as telling
-use Rattle.listening.specs.Hearing.{Told, silence, ci, menu, Outcome, acted, heardIn, heard}
+use Rattle.listening.specs.Hearing.{Told, silence, ci, menu, HearOutcome, acted, heardIn, heardBit}
 use Rattle.listening.specs.Record.{inRange, fresh}
 use Rattle.framing.proofs.Words.{hearing}
 use Rattle.listening.proofs.Ranges.{fits-range, fresh-fits, heard-range, heard-inside}
@@ -25,10 +26,10 @@ use Rattle.stretches.proofs.Each.{none, more as also, each-append, Bits
 use Rattle.stretches.proofs.Past.{hearing-append, cj-heard}
 
 -- a bit, with no test for CJ
-abbrev pub plainly : Listener → ℕ → Outcome
+abbrev pub plainly : Listener → ℕ → HearOutcome
 plainly rec bit =
     let past = pushed (rec .ear .past) bit in
-    acted rec (steppedTo past (more (rec .ear .heard)) (turned (rec .ear .place) (rec .ear .past) past (rec .msg .len) bit))
+    acted rec (turnedTo past (more (rec .ear .heard)) (placed (rec .ear .place) (rec .ear .past) past (rec .msg .len) bit))
 
 -- the reports on bits, and the record behind them
 unfoldable pub plain : Listener → List ℕ → List Report
@@ -58,30 +59,30 @@ unfolding after
 after-append rec [] b = refl
 after-append rec (bit ∷ a) b = after-append (plainly rec bit .rec) a b
 
--- what a reader has heard since it was fresh
-pub record Since (q : List ℕ) (rec : Listener) : Type 0 where
+-- what a reader has heardBit since it was fresh
+pub record Since (sofar : List ℕ) (rec : Listener) : Type 0 where
   pub range : inRange rec ≡ true
-  pub past : rec .ear .past ≡ hearing 0 q
-  pub count : rec .ear .heard ≤ length q
+  pub past : rec .ear .past ≡ hearing 0 sofar
+  pub count : rec .ear .heard ≤ length sofar
 
 more-one : (n : ℕ) → more n ≤ n + 1
 unfolding more
-more-one n = chosen (λ (k : ℕ). k ≤ n + 1) (ltb n 30) (n + 1) n (λ _. omega arith) (λ _. omega arith)
+more-one n = either-way (λ (k : ℕ). k ≤ n + 1) (ltb n 30) (n + 1) n (λ _. omega arith) (λ _. omega arith)
 
-module _ (q : List ℕ) (rec : Listener) (since : Since q rec) (bits-q : Bits q) (bit : ℕ) (low : bit < 2) (bits : List ℕ) (never : Nowhere cj (q ++ bit ∷ bits)) where
-  longer : length (q ++ bit ∷ []) ≡ length q + 1
-  longer = length-append q (bit ∷ [])
+module _ (sofar : List ℕ) (rec : Listener) (since : Since sofar rec) (bits-sofar : Bits sofar) (bit : ℕ) (low : bit < 2) (bits : List ℕ) (never : Nowhere cj (sofar ++ bit ∷ bits)) where
+  longer : length (sofar ++ bit ∷ []) ≡ length sofar + 1
+  longer = length-append sofar (bit ∷ [])
 
-  past-on : pushed (rec .ear .past) bit ≡ hearing 0 (q ++ bit ∷ [])
-  past-on = ap (λ (p : ℕ). pushed p bit) (since .past) ∙ sym (hearing-append 0 q (bit ∷ []))
+  past-on : pushed (rec .ear .past) bit ≡ hearing 0 (sofar ++ bit ∷ [])
+  past-on = ap (λ (p : ℕ). pushed p bit) (since .past) ∙ sym (hearing-append 0 sofar (bit ∷ []))
 
   is-cj : isCj (pushed (rec .ear .past) bit) (more (rec .ear .heard)) ≡ true → ⊥
   unfolding isCj
   is-cj e =
       let tests = both-true _ _ e in
       let thirty : more (rec .ear .heard) ≡ 30 = eqb-true _ _ (tests .1) in
-      let ended = cj-heard (q ++ bit ∷ []) (each-append bits-q (also low none)) (omega (arith, more-one (rec .ear .heard), longer)) (ap (λ (p : ℕ). p / 4) (sym past-on) ∙ eqb-true _ _ (tests .0)) in
-      never (ended .0) bits (ap (λ (l : List ℕ). l ++ bits) (ended .1) ∙ append-assoc q (bit ∷ []) bits)
+      let ended = cj-heard (sofar ++ bit ∷ []) (each-append bits-sofar (also low none)) (omega (arith, more-one (rec .ear .heard), longer)) (ap (λ (p : ℕ). p / 4) (sym past-on) ∙ eqb-true _ _ (tests .0)) in
+      never (ended .0) bits (ap (λ (l : List ℕ). l ++ bits) (ended .1) ∙ append-assoc sofar (bit ∷ []) bits)
 
   no-cj : isCj (pushed (rec .ear .past) bit) (more (rec .ear .heard)) ≡ false
   no-cj = by-test (isCj (pushed (rec .ear .past) bit) (more (rec .ear .heard))) refl
@@ -90,25 +91,25 @@ module _ (q : List ℕ) (rec : Listener) (since : Since q rec) (bits-q : Bits q)
       by-test true e = absurd (is-cj e)
       by-test false e = refl
 
-  heard-plainly : heard rec bit ≡ plainly rec bit
-  unfolding heardIn stepped choose
+  heard-plainly : heardBit rec bit ≡ plainly rec bit
+  unfolding heardIn turned when
   heard-plainly = heard-inside rec bit (since .range) ∙ simp (le-ltb 1 bit (omega arith), no-cj)
 
-  since-on : Since (q ++ bit ∷ []) (plainly rec bit .rec)
+  since-on : Since (sofar ++ bit ∷ []) (plainly rec bit .rec)
   unfolding acted
   since-on = record {
-    range = subst (λ (o : Outcome). inRange (o .rec) ≡ true) heard-plainly (heard-range rec bit (since .range));
+    range = subst (λ (o : HearOutcome). inRange (o .rec) ≡ true) heard-plainly (heard-range rec bit (since .range));
     past = past-on;
     count = omega (arith, more-one (rec .ear .heard), longer);
   }
 
-reports-plain : (bits q : List ℕ) (rec : Listener) → Since q rec → Bits q → Bits bits → Nowhere cj (q ++ bits) → reports rec bits ≡ plain rec bits
+reports-plain : (bits sofar : List ℕ) (rec : Listener) → Since sofar rec → Bits sofar → Bits bits → Nowhere cj (sofar ++ bits) → reports rec bits ≡ plain rec bits
 unfolding reports plain
-reports-plain [] q rec since bits-q none never = refl
-reports-plain (bit ∷ bits) q rec since bits-q (also low lows) never =
-    ap (λ (o : Outcome). noted (o .report) (o .rec .msg) (reports (o .rec) bits)) (heard-plainly q rec since bits-q bit low bits never)
+reports-plain [] sofar rec since bits-sofar none never = refl
+reports-plain (bit ∷ bits) sofar rec since bits-sofar (also low lows) never =
+    ap (λ (o : HearOutcome). noted (o .report) (o .rec .msg) (reports (o .rec) bits)) (heard-plainly sofar rec since bits-sofar bit low bits never)
     ∙ ap (noted (plainly rec bit .report) (plainly rec bit .rec .msg))
-    (reports-plain bits (q ++ bit ∷ []) (plainly rec bit .rec) (since-on q rec since bits-q bit low bits never) (each-append bits-q (also low none)) lows (rw append-assoc never))
+    (reports-plain bits (sofar ++ bit ∷ []) (plainly rec bit .rec) (since-on sofar rec since bits-sofar bit low bits never) (each-append bits-sofar (also low none)) lows (rw append-assoc never))
 
 pub fresh-plain : (bits : List ℕ) → Bits bits → Nowhere cj bits → reports fresh bits ≡ plain fresh bits
 fresh-plain bits lows never = reports-plain bits [] fresh (record { range = fits-range fresh fresh-fits; past = refl; count = lit≤ tt }) none lows never

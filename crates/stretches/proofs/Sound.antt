@@ -1,4 +1,4 @@
--- The octets of an accepted message: each is one that reading stores, and none is 0.
+-- The octets of an accepted message: each is one that reading stores, and none is 0. Computed at each of the 256 octets.
 -- Assumes nothing.
 use Prim.Native.Nat.{ℕ, _<_, _≤_}
 use native.Mathlib.Omega.{arith}
@@ -8,9 +8,9 @@ use mathlib.Core.List.{List, [], _∷_}
 use borrow.Author.Tests.{ltb-true, not-true, eq-eqb}
 use lib.Dec.{T, eqb, ltb}
 use lib.ListN.{length, drop}
-use Rattle.laws.specs.Choice.{choose, both, either}
+use Rattle.laws.specs.Logic.{when, both, either}
 use Rattle.laws.specs.Tests.{allBelow, every}
-use Rattle.laws.proofs.Chosen.{both-true}
+use Rattle.laws.proofs.Logic.{both-true}
 use Rattle.laws.proofs.Computed.{below}
 use Rattle.octets.specs.declared.Kind.{Kind}
 use Rattle.octets.specs.declared.Kind.the-variants.{Ci, Menu}
@@ -19,15 +19,15 @@ use Rattle.octets.specs.declared.Purpose.the-variants.{Writing}
 use Rattle.octets.specs.Octets.{bad}
 use Rattle.octets.specs.Lists.{octetFault, firstFault, opens}
 use Rattle.octets.proofs.Lists.{accepted-short, before-none}
-use Rattle.stretches.specs.Stretch.{octetsAll, Accepted}
+use Rattle.stretches.specs.Stretch.{octetsAll, AcceptedMessage}
 use Rattle.stretches.proofs.Each.{Each, none, more}
 
 -- where the first test holds, so does the second
 abbrev pub implies : Bool → Bool → Bool
-implies a b = choose a b true
+implies a b = when a b true
 
 pub implied : (a b : Bool) → T (implies a b) → a ≡ true → T b
-unfolding choose
+unfolding when
 implied true b t e = t
 implied false b t e = absurd (let z : _≡_ {A = ℕ} 0 1 = cc in let w : ⊥ = omega arith in w)
 
@@ -48,14 +48,14 @@ truly false t = absurd t
 
 -- what the writer accepts is sound: computed at each octet
 first-sound : (b : ℕ) → b < 256 → opens (b ∷ []) ≡ true → Sound b
-unfolding choose both either allBelow
+unfolding when both either allBelow
 first-sound b h e = record { small = h; test = truly _ (implied _ _ (below (λ (k : ℕ). implies (opens (k ∷ [])) (soundly k)) 256 tt b h) e) }
 
 abbrev laterSound : Kind → ℕ → Bool
 laterSound kind b = implies (eqb (octetFault (Writing kind) b) 0) (soundly b)
 
 later-test : (kind : Kind) (b : ℕ) → b < 256 → T (laterSound kind b)
-unfolding choose both either allBelow
+unfolding when both either allBelow
 later-test Ci b h = below (laterSound Ci) 256 tt b h
 later-test Menu b h = below (laterSound Menu) 256 tt b h
 
@@ -74,18 +74,18 @@ laters-sound kind (b ∷ bs) small e =
     let fine = before-none (octetFault (Writing kind) b) (firstFault (Writing kind) bs) e in
     more (later-sound kind b (parts .0) (fine .0)) (laters-sound kind bs (parts .1) (fine .1))
 
-by-tests : (p : Purpose) (bs : List ℕ) (long opened : Bool) → opens bs ≡ opened → choose long 4 (choose opened (firstFault p (drop 1 bs)) 5) ≡ 0 → (opens bs ≡ true) × (firstFault p (drop 1 bs) ≡ 0)
-unfolding choose
+by-tests : (p : Purpose) (bs : List ℕ) (long opened : Bool) → opens bs ≡ opened → when long 4 (when opened (firstFault p (drop 1 bs)) 5) ≡ 0 → (opens bs ≡ true) × (firstFault p (drop 1 bs) ≡ 0)
+unfolding when
 by-tests p bs true opened o e = absurd (omega (arith, e))
 by-tests p bs false true o e = (o, e)
 by-tests p bs false false o e = absurd (omega (arith, e))
 
-pub accepted-sound : (kind : Kind) (octets : List ℕ) → Accepted kind octets → Each Sound octets
+pub accepted-sound : (kind : Kind) (octets : List ℕ) → AcceptedMessage kind octets → Each Sound octets
 accepted-sound kind [] a = none
 accepted-sound kind (b ∷ bs) a =
     let parts = every-small b bs (a .octet) in
     let fine = by-tests (Writing kind) (b ∷ bs) (ltb 64 (length (b ∷ bs))) (opens (b ∷ bs)) refl (a .taken) in
     more (first-sound b (parts .0) (fine .0)) (laters-sound kind bs (parts .1) (fine .1))
 
-pub accepted-length : (kind : Kind) (octets : List ℕ) → Accepted kind octets → length octets ≤ 64
+pub accepted-length : (kind : Kind) (octets : List ℕ) → AcceptedMessage kind octets → length octets ≤ 64
 accepted-length kind octets a = accepted-short (Writing kind) octets (a .taken)

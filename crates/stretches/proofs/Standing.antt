@@ -1,4 +1,5 @@
--- A word stands nowhere in bits on which a table of states, made for that word, never comes to its last state.
+-- A word stands nowhere in bits on which a table of states, made for that word, never comes to its last state: the word leads there from any
+-- state, and no bit leads out again.
 -- Assumes nothing.
 use Prim.Native.Nat.{ℕ, suc, _<_}
 use native.Mathlib.Omega.{arith}
@@ -7,9 +8,9 @@ use mathlib.Core.Bool.{Bool}
 use mathlib.Core.List.{List, [], _∷_, _++_, append-assoc}
 use lib.Dec.{T, eqb, ltb, eqb→eq, ltb→lt}
 use lib.ListN.{take, drop, getD, take-append-drop}
-use Rattle.laws.specs.Choice.{choose, both}
+use Rattle.laws.specs.Logic.{when, both}
 use Rattle.laws.specs.Tests.{allBelow}
-use Rattle.laws.proofs.Chosen.{chosen}
+use Rattle.laws.proofs.Logic.{either-way}
 use Rattle.laws.proofs.Computed.{both-left, both-right, below}
 use Rattle.stretches.specs.Stretch.{Nowhere}
 
@@ -36,56 +37,56 @@ pub record Table : Type 0 where
   pub last : ℕ
 
 abbrev pub step : Table → ℕ → ℕ → ℕ
-step t s bit = choose (eqb bit 0) (getD (t .zeros) s 0) (getD (t .ones) s 0)
+step table state bit = when (eqb bit 0) (getD (table .zeros) state 0) (getD (table .ones) state 0)
 
 unfoldable pub run : Table → ℕ → List ℕ → ℕ
-run t s [] = s
-run t s (bit ∷ bits) = run t (step t s bit) bits
+run table state [] = state
+run table state (bit ∷ bits) = run table (step table state bit) bits
 
-pub run-append : (t : Table) (s : ℕ) (a b : List ℕ) → run t s (a ++ b) ≡ run t (run t s a) b
+pub run-append : (table : Table) (state : ℕ) (a b : List ℕ) → run table state (a ++ b) ≡ run table (run table state a) b
 unfolding run
-run-append t s [] b = refl
-run-append t s (bit ∷ a) b = run-append t (step t s bit) a b
+run-append table state [] b = refl
+run-append table state (bit ∷ a) b = run-append table (step table state bit) a b
 
 -- made for the word: no state leads out of the table, none out of the last state, and the word leads there from anywhere
 abbrev pub inside : Table → ℕ → Bool
-inside t s = both (ltb (getD (t .zeros) s 0) (suc (t .last))) (ltb (getD (t .ones) s 0) (suc (t .last)))
+inside table state = both (ltb (getD (table .zeros) state 0) (suc (table .last))) (ltb (getD (table .ones) state 0) (suc (table .last)))
 
 abbrev pub stays : Table → Bool
-stays t = both (eqb (getD (t .zeros) (t .last) 0) (t .last)) (eqb (getD (t .ones) (t .last) 0) (t .last))
+stays table = both (eqb (getD (table .zeros) (table .last) 0) (table .last)) (eqb (getD (table .ones) (table .last) 0) (table .last))
 
 abbrev pub finds : Table → List ℕ → ℕ → Bool
-finds t word s = eqb (run t s word) (t .last)
+finds table word state = eqb (run table state word) (table .last)
 
 abbrev pub madeFor : List ℕ → Table → Bool
-madeFor word t = both (allBelow (inside t) (suc (t .last))) (both (stays t) (allBelow (finds t word) (suc (t .last))))
+madeFor word table = both (allBelow (inside table) (suc (table .last))) (both (stays table) (allBelow (finds table word) (suc (table .last))))
 
-module _ (word : List ℕ) (t : Table) (made : T (madeFor word t)) where
-  within : (s : ℕ) → s < suc (t .last) → T (inside t s)
-  within = below (inside t) (suc (t .last)) (both-left _ _ made)
+module _ (word : List ℕ) (table : Table) (made : T (madeFor word table)) where
+  within : (state : ℕ) → state < suc (table .last) → T (inside table state)
+  within = below (inside table) (suc (table .last)) (both-left _ _ made)
 
-  kept : T (stays t)
+  kept : T (stays table)
   kept = both-left _ _ (both-right _ _ made)
 
-  run-word : (s : ℕ) → s < suc (t .last) → run t s word ≡ t .last
-  run-word s h = eqb→eq _ _ (below (finds t word) (suc (t .last)) (both-right _ _ (both-right _ _ made)) s h)
+  run-word : (state : ℕ) → state < suc (table .last) → run table state word ≡ table .last
+  run-word state low = eqb→eq _ _ (below (finds table word) (suc (table .last)) (both-right _ _ (both-right _ _ made)) state low)
 
-  run-inside : (s : ℕ) (bits : List ℕ) → s < suc (t .last) → run t s bits < suc (t .last)
+  run-inside : (state : ℕ) (bits : List ℕ) → state < suc (table .last) → run table state bits < suc (table .last)
   unfolding run
-  run-inside s [] h = h
-  run-inside s (bit ∷ bits) h =
-      run-inside (step t s bit) bits
-      (chosen (λ (k : ℕ). k < suc (t .last)) (eqb bit 0) _ _ (λ _. ltb→lt _ _ (both-left _ _ (within s h))) (λ _. ltb→lt _ _ (both-right _ _ (within s h))))
+  run-inside state [] low = low
+  run-inside state (bit ∷ bits) low =
+      run-inside (step table state bit) bits
+      (either-way (λ (n : ℕ). n < suc (table .last)) (eqb bit 0) _ _ (λ _. ltb→lt _ _ (both-left _ _ (within state low))) (λ _. ltb→lt _ _ (both-right _ _ (within state low))))
 
-  run-stays : (bits : List ℕ) → run t (t .last) bits ≡ t .last
+  run-stays : (bits : List ℕ) → run table (table .last) bits ≡ table .last
   unfolding run
   run-stays [] = refl
   run-stays (bit ∷ bits) =
-      let next : step t (t .last) bit ≡ t .last = chosen (λ (k : ℕ). k ≡ t .last) (eqb bit 0) _ _ (λ _. eqb→eq _ _ (both-left _ _ kept)) (λ _. eqb→eq _ _ (both-right _ _ kept)) in
-      ap (λ (k : ℕ). run t k bits) next ∙ run-stays bits
+      let next : step table (table .last) bit ≡ table .last = either-way (λ (n : ℕ). n ≡ table .last) (eqb bit 0) _ _ (λ _. eqb→eq _ _ (both-left _ _ kept)) (λ _. eqb→eq _ _ (both-right _ _ kept)) in
+      ap (λ (n : ℕ). run table n bits) next ∙ run-stays bits
 
-  pub nowhere : (bits : List ℕ) (s : ℕ) → s < suc (t .last) → run t s bits < t .last → Nowhere word bits
-  nowhere bits s h alive before after e =
-      let found : run t s (before ++ word ++ after) ≡ t .last =
-      run-append t s (before ++ word) after ∙ ap (λ (k : ℕ). run t k after) (run-append t s before word ∙ run-word (run t s before) (run-inside s before h)) ∙ run-stays after in
-      omega (arith, alive, sym (ap (run t s) e) ∙ found)
+  pub nowhere : (bits : List ℕ) (state : ℕ) → state < suc (table .last) → run table state bits < table .last → Nowhere word bits
+  nowhere bits state low alive before after e =
+      let found : run table state (before ++ word ++ after) ≡ table .last =
+      run-append table state (before ++ word) after ∙ ap (λ (n : ℕ). run table n after) (run-append table state before word ∙ run-word (run table state before) (run-inside state before low)) ∙ run-stays after in
+      omega (arith, alive, sym (ap (run table state) e) ∙ found)

@@ -1,5 +1,5 @@
 -- Three words that stand nowhere: the flag and CJ in copies of an accepted message; ten 1s with a 0 behind them in a copy that lacks its
--- first bit.
+-- first bit. Each has a table, on which every piece of a line leads from the first states to the first states: computed at each octet.
 -- Assumes nothing.
 use Prim.Native.Nat.{ℕ, zero, suc, _<_}
 use native.Mathlib.Omega.{arith}
@@ -8,7 +8,7 @@ use mathlib.Core.Bool.{Bool}
 use mathlib.Core.List.{List, [], _∷_, _++_}
 use lib.Dec.{T, ltb, ltb→lt, lit<}
 use lib.ListN.{drop, replicate}
-use Rattle.laws.specs.Choice.{choose, both, either}
+use Rattle.laws.specs.Logic.{when, both, either}
 use Rattle.laws.specs.Tests.{allBelow}
 use Rattle.laws.proofs.Computed.{below, both-left, both-right}
 use Rattle.octets.specs.declared.Kind.{Kind}
@@ -21,46 +21,46 @@ use Rattle.stretches.proofs.Sound.{implies, implied, soundly, Sound}
 
 -- a piece of the line that leads from each of the first states to one of them
 abbrev keeps : Table → ℕ → List ℕ → Bool
-keeps t good piece = allBelow (λ (s : ℕ). ltb (run t s piece) good) good
+keeps table good piece = allBelow (λ (state : ℕ). ltb (run table state piece) good) good
 
 abbrev octetKeeps : Table → ℕ → ℕ → Bool
-octetKeeps t good b = implies (soundly b) (keeps t good (framed b))
+octetKeeps table good b = implies (soundly b) (keeps table good (framed b))
 
 -- a line keeps them, which opens with these 1s: its sync of either kind does, and each octet
 abbrev linesKeep : Table → ℕ → List ℕ → Bool
-linesKeep t good ones = both (both (keeps t good (ones ++ sync Ci)) (keeps t good (ones ++ sync Menu))) (allBelow (octetKeeps t good) 256)
+linesKeep table good ones = both (both (keeps table good (ones ++ sync Ci)) (keeps table good (ones ++ sync Menu))) (allBelow (octetKeeps table good) 256)
 
-module _ (t : Table) (good : ℕ) where
+module _ (table : Table) (good : ℕ) where
   abbrev Keeps : List ℕ → Type 0
-  Keeps piece = (s : ℕ) → s < good → run t s piece < good
+  Keeps piece = (state : ℕ) → state < good → run table state piece < good
 
-  kept : (piece : List ℕ) → T (keeps t good piece) → Keeps piece
-  kept piece k s h = ltb→lt _ _ (below (λ (n : ℕ). ltb (run t n piece) good) good k s h)
+  kept : (piece : List ℕ) → T (keeps table good piece) → Keeps piece
+  kept piece computed state low = ltb→lt _ _ (below (λ (n : ℕ). ltb (run table n piece) good) good computed state low)
 
   both-keep : (a b : List ℕ) → Keeps a → Keeps b → Keeps (a ++ b)
-  both-keep a b p q s h = subst (λ (k : ℕ). k < good) (sym (run-append t s a b)) (q (run t s a) (p s h))
+  both-keep a b a-keeps b-keeps state low = subst (λ (n : ℕ). n < good) (sym (run-append table state a b)) (b-keeps (run table state a) (a-keeps state low))
 
   nothing-keeps : Keeps []
   unfolding run
-  nothing-keeps s h = h
+  nothing-keeps state low = low
 
-  octets-keep : T (allBelow (octetKeeps t good) 256) → (octets : List ℕ) → Each Sound octets → Keeps (framedAll octets)
+  octets-keep : T (allBelow (octetKeeps table good) 256) → (octets : List ℕ) → Each Sound octets → Keeps (framedAll octets)
   unfolding framedAll
-  octets-keep k [] none = nothing-keeps
-  octets-keep k (b ∷ octets) (more o os) =
-      both-keep (framed b) (framedAll octets) (kept (framed b) (implied _ _ (below (octetKeeps t good) 256 k b (o .small)) (o .test))) (octets-keep k octets os)
+  octets-keep computed [] none = nothing-keeps
+  octets-keep computed (b ∷ octets) (more o os) =
+      both-keep (framed b) (framedAll octets) (kept (framed b) (implied _ _ (below (octetKeeps table good) 256 computed b (o .small)) (o .test))) (octets-keep computed octets os)
 
-  opening-keeps : (ones : List ℕ) → T (linesKeep t good ones) → (kind : Kind) → Keeps (ones ++ sync kind)
-  opening-keeps ones k Ci = kept (ones ++ sync Ci) (both-left _ _ (both-left _ _ k))
-  opening-keeps ones k Menu = kept (ones ++ sync Menu) (both-right _ _ (both-left _ _ k))
+  opening-keeps : (ones : List ℕ) → T (linesKeep table good ones) → (kind : Kind) → Keeps (ones ++ sync kind)
+  opening-keeps ones computed Ci = kept (ones ++ sync Ci) (both-left _ _ (both-left _ _ computed))
+  opening-keeps ones computed Menu = kept (ones ++ sync Menu) (both-right _ _ (both-left _ _ computed))
 
-  lines-keep : (ones : List ℕ) → T (linesKeep t good ones) → (kind : Kind) (octets : List ℕ) → Each Sound octets → Keeps (ones ++ sync kind ++ framedAll octets)
-  lines-keep ones k kind octets o = both-keep (ones ++ sync kind) (framedAll octets) (opening-keeps ones k kind) (octets-keep (both-right _ _ k) octets o)
+  lines-keep : (ones : List ℕ) → T (linesKeep table good ones) → (kind : Kind) (octets : List ℕ) → Each Sound octets → Keeps (ones ++ sync kind ++ framedAll octets)
+  lines-keep ones computed kind octets o = both-keep (ones ++ sync kind) (framedAll octets) (opening-keeps ones computed kind) (octets-keep (both-right _ _ computed) octets o)
 
   copies-keep : (line : List ℕ) → Keeps line → (n : ℕ) → Keeps (copies n line)
   unfolding copies
-  copies-keep line k zero = nothing-keeps
-  copies-keep line k (suc n) = both-keep line (copies n line) k (copies-keep line k n)
+  copies-keep line line-keeps zero = nothing-keeps
+  copies-keep line line-keeps (suc n) = both-keep line (copies n line) line-keeps (copies-keep line line-keeps n)
 
 -- the flag: up to five 1s since the last 0; seven or more, or no 0 yet; six; the flag has stood
 abbrev flags : Table
@@ -84,16 +84,16 @@ start = tenOnes ++ 0 ∷ []
 
 module _ (kind : Kind) (octets : List ℕ) (sound : Each Sound octets) where
   pub no-flag : (n : ℕ) → Nowhere flag (copies n (sequence kind octets))
-  unfolding run choose both either allBelow framed sequence
+  unfolding run when both either allBelow framed sequence
   no-flag n = nowhere flag flags tt _ 0 (lit< tt) (omega (arith, copies-keep flags 7 (sequence kind octets) (lines-keep flags 7 tenOnes tt kind octets sound) n 0 (lit< tt)))
 
   pub no-cj : (n : ℕ) → Nowhere cj (copies n (sequence kind octets))
-  unfolding run choose both either allBelow framed framedAll sequence cj
+  unfolding run when both either allBelow framed framedAll sequence cj
   no-cj n = nowhere cj cjs tt _ 0 (lit< tt) (omega (arith, copies-keep cjs 2 (sequence kind octets) (lines-keep cjs 2 tenOnes tt kind octets sound) n 0 (lit< tt)))
 
   -- a copy with 0 for its first bit
   spoiled : Nowhere start (0 ∷ drop 1 (sequence kind octets))
-  unfolding run choose both either allBelow framed sequence
+  unfolding run when both either allBelow framed sequence
   spoiled = nowhere start starts tt _ 0 (lit< tt) (omega (arith, lines-keep starts 10 (0 ∷ replicate 9 1) tt kind octets sound 0 (lit< tt)))
 
   pub no-start : Nowhere start (drop 1 (sequence kind octets))

@@ -8,7 +8,7 @@ use Rattle.octets.specs.declared.Kind.the-variants.{Ci, Menu}
 use Rattle.listening.specs.declared.Message.{Message}
 use Rattle.listening.specs.declared.Listener.{Listener}
 use Rattle.listening.specs.Hearing as hearing
-use Rattle.listening.specs.Hearing.{Told, silence, ci, menu, octetsOf, heard}
+use Rattle.listening.specs.Hearing.{Told, silence, ci, menu, octetsOf, heardBit}
 use Rattle.listening.specs.Record.{fresh}
 
 -- a report: a message, in kind and in every octet; CJ; or a refusal's number
@@ -28,9 +28,9 @@ noted (hearing.refusal n) m later = refusal n ∷ later
 -- all reports on the bits, in order
 unfoldable pub reports : Listener → List ℕ → List Report
 reports rec [] = []
-reports rec (bit ∷ bits) = noted (heard rec bit .report) (heard rec bit .rec .msg) (reports (heard rec bit .rec) bits)
+reports rec (bit ∷ bits) = noted (heardBit rec bit .report) (heardBit rec bit .rec .msg) (reports (heardBit rec bit .rec) bits)
 
--- a fresh reader reports this message on the bits, perhaps again, and nothing else: no other message, no refusal, no CJ
+-- a fresh reader "reports that message first", perhaps again, and nothing else: no other message, "no refusal or CJ"
 pub record Reads (kind : Kind) (octets bits : List ℕ) : Type 0 where
   pub again : ℕ
   pub all : reports fresh bits ≡ replicate (suc again) (message kind octets)

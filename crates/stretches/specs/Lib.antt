@@ -1,3 +1,2 @@
 pub mod Stretch
 pub mod Hearing
-pub mod Demand

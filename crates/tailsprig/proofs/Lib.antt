@@ -1,4 +1,2 @@
-pub mod Codes
-pub mod Parts
-pub mod Reading
-pub mod Steps
+pub mod Counts
+pub mod Unique

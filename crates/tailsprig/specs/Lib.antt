@@ -1,4 +1,1 @@
-pub mod Codes
-pub mod Hearing
-pub mod Reading
-pub mod Steps
+pub mod Exports

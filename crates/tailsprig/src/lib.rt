@@ -1,44 +1,29 @@
 // The library as a C program sees it: numbers, byte slices, and a refusal n as the answer -n. include/tailsprig.h is its manual.
 use codes::Asked;
+use framing::NOTHING;
 use listening::Listener;
-use menus::Found;
-use menus::Menu;
 use menus::Offer;
-use octets::Refusal;
-use octets::Wrote;
+use menus::ReadMenu;
 use records::Record;
+use refusals::Refusal;
 use steps::Session;
 use steps::Started;
 ghost use mathlib.Core.Path.{_≡_};
 ghost use Rattle.listening.specs.Record.{fresh};
-ghost use Rattle.listening.specs.Hearing.{heard, heardMany};
+ghost use Rattle.listening.specs.Hearing.{heardBit, heardBits};
 ghost use lib.ListN.{length};
 ghost use Rattle.menus.specs.Groups.{looked, partAt};
-ghost use Rattle.menus.specs.Groups as groups;
 ghost use Rattle.menus.specs.Offer.{menuRead};
 ghost use Rattle.choices.specs.Choosing.{choiceOf};
 ghost use Rattle.offers.specs.Making.{sourceOf, madeCm, madeJm};
 ghost use Rattle.codes.specs.Choosing.{choiceCode, sourceCode};
-ghost use Rattle.tailsprig.specs.Reading.{lookedCode, SmallLooked, ReadsAs};
-ghost use Rattle.octets.specs.Lent.{says};
 ghost use Rattle.sequences.specs.Writing.{writtenCj};
-ghost use Rattle.tailsprig.specs.Hearing.{HearsAs, RunsAs};
 ghost use Rattle.steps.specs.Session.{callerFrom, answererFrom, defaultTe, startedCaller};
 ghost use Rattle.steps.specs.Stepping.{stepped};
 ghost use Rattle.codes.specs.Steps.{carriedOf};
-ghost use Rattle.tailsprig.specs.Steps.{StartsAs, StepsAs};
-ghost use Rattle.codes.specs.Kinds.{kindOf, writtenAs};
-ghost use Rattle.tailsprig.specs.Codes.{code, Small, Returns};
-
-fn wrote(w: Wrote) -> i32
-    requires { ⌜ Small (says w) ⌝ }
-    ensures { λ n. ⌜ n ≡ code (says w) ⌝ }
-{
-    match w {
-        Wrote::Count(n) => n as i32,
-        Wrote::Refused(r) => codes::refused(r),
-    }
-}
+ghost use Rattle.codes.specs.Writing.{kindOf, writtenAs};
+ghost use Rattle.codes.specs.Reading.{lookedCode};
+ghost use Rattle.tailsprig.specs.Exports.{Returns, HearsAs, RunsAs, ReadsAs, StartsAs, StepsAs};
 
 #[no_mangle]
 pub extern "C" fn tailsprig_write(kind: u8, octets: &[u8], copies: u16, out: &mut [u8]) -> i32
@@ -46,16 +31,16 @@ pub extern "C" fn tailsprig_write(kind: u8, octets: &[u8], copies: u16, out: &mu
 {
     let asked = codes::kind_of(kind);
     let Asked::Known(known) = asked else {
-        return codes::refused(Refusal::BadRecord);
+        return codes::refusal_code(Refusal::BadRecord);
     };
-    wrote(sequences::write(known, octets, copies, out))
+    codes::wrote_code(sequences::write(known, octets, copies, out))
 }
 
 #[no_mangle]
 pub extern "C" fn tailsprig_write_cj(out: &mut [u8]) -> i32
     ensures { λ r. ⌜ Returns (writtenCj (now (out .entry))) r (now (out .exit)) ⌝ }
 {
-    wrote(sequences::write_cj(out))
+    codes::wrote_code(sequences::write_cj(out))
 }
 
 // Many bits, as C gets them.
@@ -74,13 +59,13 @@ pub extern "C" fn tailsprig_fresh() -> Listener
     listening::fresh_line()
 }
 
-// A bit, heard into the record that the host lends. Most bits touch the ear alone; the record is copied only where a bit asks
-// for something to be done with the messages.
+// A bit, heard into the record that the host lends. Most bits turn the ear and ask for nothing; only where a bit asks for something is
+// the record copied.
 #[no_mangle]
 pub extern "C" fn tailsprig_hear(rec: &mut Listener, bit: u8) -> i32
-    ensures { λ r. ⌜ HearsAs (heard (now (rec .entry)) bit) r (now (rec .exit)) ⌝ }
+    ensures { λ r. ⌜ HearsAs (heardBit (now (rec .entry)) bit) r (now (rec .exit)) ⌝ }
 {
-    let s = halves::hear_light(
+    let turned = listening::turn_ear(
         rec.ear,
         rec.msg.kind,
         rec.msg.len,
@@ -88,27 +73,27 @@ pub extern "C" fn tailsprig_hear(rec: &mut Listener, bit: u8) -> i32
         rec.last.len,
         bit,
     );
-    rec.ear = s.ear;
-    if s.heavy {
-        let a = halves::hear_heavy(*rec, s.act);
-        *rec = a.rec;
-        return a.code;
+    rec.ear = turned.ear;
+    if turned.act != NOTHING {
+        let acted = codes::act_code(*rec, turned.act);
+        *rec = acted.rec;
+        return acted.code;
     }
-    s.code
+    0
 }
 
 // Many bits, up to the first that reports something.
 #[no_mangle]
 pub extern "C" fn tailsprig_hear_many(rec: Listener, bits: &[u8]) -> Ran
-    ensures { λ r. ⌜ RunsAs (heardMany rec (now (bits .entry))) r ⌝ }
+    ensures { λ r. ⌜ RunsAs (heardBits rec (now (bits .entry))) r ⌝ }
 {
     let ran = listening::hear_many(rec, bits);
     let next = ran.rec;
-    let heard = ran.heard;
+    let report = ran.report;
     Ran {
         rec: next,
         taken: ran.taken,
-        code: codes::heard_code(heard),
+        code: codes::heard_code(report),
     }
 }
 
@@ -119,23 +104,12 @@ pub struct MenuRead {
     pub code: i32,
 }
 
-fn found_code(f: Found) -> i32
-    requires { ⌜ SmallLooked (groups.says f) ⌝ }
-    ensures { λ n. ⌜ n ≡ lookedCode (groups.says f) ⌝ }
-{
-    match f {
-        Found::At(place) => place as i32,
-        Found::Nothing => 64,
-        Found::Refused(r) => codes::refused(r),
-    }
-}
-
 // Where the first group of a tag stands, or 64 where there is none.
 #[no_mangle]
 pub extern "C" fn tailsprig_find(octets: &[u8], tag: u8) -> i32
     ensures { λ r. ⌜ r ≡ lookedCode (looked (now (octets .entry)) tag) ⌝ }
 {
-    found_code(menus::find(octets, tag))
+    codes::found_code(menus::find(octets, tag))
 }
 
 // How many octets the part of a place has.
@@ -154,13 +128,13 @@ pub extern "C" fn tailsprig_read(octets: &[u8]) -> MenuRead
 {
     let menu = menus::read(octets);
     match menu {
-        Menu::Offers(offer) => MenuRead {
+        ReadMenu::Offers(offer) => MenuRead {
             offer: offer,
             code: 0,
         },
-        Menu::Refused(r) => MenuRead {
+        ReadMenu::Refused(r) => MenuRead {
             offer: codes::no_offer(),
-            code: codes::refused(r),
+            code: codes::refusal_code(r),
         },
     }
 }
@@ -170,7 +144,7 @@ pub extern "C" fn tailsprig_read(octets: &[u8]) -> MenuRead
 pub extern "C" fn tailsprig_cm(own: Record, function: u8, out: &mut [u8]) -> i32
     ensures { λ r. ⌜ Returns (madeCm own function (now (out .entry))) r (now (out .exit)) ⌝ }
 {
-    wrote(offers::make_cm(own, function, out))
+    codes::wrote_code(offers::make_cm(own, function, out))
 }
 
 // Makes the JM of a record for a heard CM.
@@ -178,7 +152,7 @@ pub extern "C" fn tailsprig_cm(own: Record, function: u8, out: &mut [u8]) -> i32
 pub extern "C" fn tailsprig_jm(own: Record, heard: &[u8], out: &mut [u8]) -> i32
     ensures { λ r. ⌜ Returns (madeJm own (now (heard .entry)) (now (out .entry))) r (now (out .exit)) ⌝ }
 {
-    wrote(offers::make_jm(own, heard, out))
+    codes::wrote_code(offers::make_jm(own, heard, out))
 }
 
 // In which of two menus the call function octet of a JM stands.
@@ -224,7 +198,7 @@ pub extern "C" fn tailsprig_start_caller(start: u32, te: u32) -> CallerStart
         },
         Started::Refused(r) => CallerStart {
             session: codes::no_session(),
-            code: codes::refused(r),
+            code: codes::refusal_code(r),
         },
     }
 }

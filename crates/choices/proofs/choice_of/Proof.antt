@@ -1,3 +1,5 @@
+-- `choices::choice_of` meets its contract: CM is read, and its refusal or what it offers is gone on with.
+-- Assumes nothing.
 use mathlib.Core.Path.{_∙_}
 use denote.Ref.{now}
 use Rattle.choices.specs.Choosing.{choiceFor}
@@ -15,20 +17,20 @@ enum-known-menu c = search needs
 enum-known-menu-2 : tie.Need-enum-known-menu-2
 enum-known-menu-2 c = search needs
 
-choose-for-requires : tie.Need-choose-for-requires
-choose-for-requires c κs = search needs
+choice-for-requires : tie.Need-choice-for-requires
+choice-for-requires c κs = search needs
 
 returns : tie.Need-returns
 returns c =
-    let r = c .before .before .before in
-    let a = r .before .before .before .args in
-    on-refused (now (a .cm)) _ (r .read .ensures) (λ o. choiceFor (now (a .jm)) o) _ (c .before .menu .given .1)
+    let after-read = c .before .before .before in
+    let args = after-read .before .before .before .args in
+    on-refused (now (args .cm)) _ (after-read .read .ensures) (λ o. choiceFor (now (args .jm)) o) _ (c .before .menu .given .1)
 
 returns-2 : tie.Need-returns-2
 returns-2 c =
-    let r = c .before .before .before .before in
-    let a = r .before .before .before .args in
-    c .choose-for .ensures ∙ on-offered (now (a .cm)) _ (r .read .ensures) (λ o. choiceFor (now (a .jm)) o) _ (c .before .before .menu2 .given .1)
+    let after-read = c .before .before .before .before in
+    let args = after-read .before .before .before .args in
+    c .choice-for .ensures ∙ on-offered (now (args .cm)) _ (after-read .read .ensures) (λ o. choiceFor (now (args .jm)) o) _ (c .before .before .menu2 .given .1)
 
 pub choice-of-spec : {M : Type 1} → statement M
 choice-of-spec =
@@ -37,6 +39,6 @@ choice-of-spec =
     read-requires
     enum-known-menu
     enum-known-menu-2
-    choose-for-requires
+    choice-for-requires
     returns
     returns-2)

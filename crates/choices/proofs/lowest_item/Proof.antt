@@ -1,3 +1,5 @@
+-- `choices::lowest_item` meets its contract. Invariant: no item from 1 to below i is in the set, so the lowest is the lowest from i on.
+-- Assumes nothing.
 use borrow.Author.Needs.{needs}
 use native.Mathlib.Omega.{arith}
 use Prim.Native.Nat.{_≤_, _-_}
@@ -21,9 +23,9 @@ in-set-requires c κs = search needs
 
 returns : tie.Need-returns Inv-loop μ-loop
 returns c =
-    let l = c .before .before .before in
-    let items = l .before .args .items in
-    (sym (l .loop .inv .1 ∙ lowest-here items (l .loop .i) (omega arith) (sym (c .before .in-set .ensures) ∙ c .if1 .taken)), omega arith)
+    let at-loop = c .before .before .before in
+    let items = at-loop .before .args .items in
+    sym (at-loop .loop .inv .1 ∙ lowest-here items (at-loop .loop .i) (omega arith) (sym (c .before .in-set .ensures) ∙ c .if1 .taken))
 
 add-i : tie.Need-add-i Inv-loop μ-loop
 add-i c = search needs
@@ -33,12 +35,12 @@ loop-less c = search needs
 
 loop-again : tie.Need-loop-again Inv-loop μ-loop
 loop-again c =
-    let l = c .before .before .before in
-    let items = l .before .args .items in
-    (search needs, l .loop .inv .1 ∙ lowest-on items (l .loop .i) (omega arith) (sym (c .before .in-set .ensures) ∙ c .if1 .left))
+    let at-loop = c .before .before .before in
+    let items = at-loop .before .args .items in
+    (search needs, at-loop .loop .inv .1 ∙ lowest-on items (at-loop .loop .i) (omega arith) (sym (c .before .in-set .ensures) ∙ c .if1 .left))
 
 returns-2 : tie.Need-returns-2 Inv-loop μ-loop
-returns-2 c = (sym (c .before .loop .inv .1 ∙ lowest-none (c .before .before .args .items) (c .before .loop .i) (omega (arith, c .before .loop .inv .0, c .loop-test .left))), omega arith)
+returns-2 c = sym (c .before .loop .inv .1 ∙ lowest-none (c .before .before .args .items) (c .before .loop .i) (omega (arith, c .before .loop .inv .0, c .loop-test .left)))
 
 pub lowest-item-spec : {M : Type 1} → statement M
 lowest-item-spec =

@@ -1,3 +1,6 @@
+-- `codes::choice_code` meets its contract: which choice it is decides; an item, and PCM options with 16 added, are held by an i32 as they
+-- are (`read-back`).
+-- Assumes nothing.
 use mathlib.Core.Path.{_∙_}
 use Rattle.codes.proofs.Codes.{read-back, read-answer}
 use borrow.Author.Needs.{needs}
@@ -28,8 +31,8 @@ cast-result-3 c = search needs
 enum-known-choice-3 : tie.Need-enum-known-choice-3
 enum-known-choice-3 c = search needs
 
-refused-requires : tie.Need-refused-requires
-refused-requires c κs = search needs
+refusal-code-requires : tie.Need-refusal-code-requires
+refusal-code-requires c κs = search needs
 
 returns : tie.Need-returns
 returns c = simp (c .enum-told .given .1)
@@ -41,7 +44,7 @@ returns-3 : tie.Need-returns-3
 returns-3 c = simp (c .before .choice2 .given .1) (read-back _ (cast-result-3 c .sfits))
 
 returns-4 : tie.Need-returns-4
-returns-4 c = simp (c .before .before .choice3 .given .1) (read-answer (c .refused .result) (c .refused .ok) ∙ c .refused .ensures)
+returns-4 c = simp (c .before .before .choice3 .given .1) (read-answer (c .refusal-code .result) (c .refusal-code .ok) ∙ c .refusal-code .ensures)
 
 pub choice-code-spec : {M : Type 1} → statement M
 choice-code-spec =
@@ -55,7 +58,7 @@ choice-code-spec =
     add-result
     cast-result-3
     enum-known-choice-3
-    refused-requires
+    refusal-code-requires
     returns
     returns-2
     returns-3

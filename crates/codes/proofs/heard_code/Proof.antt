@@ -1,6 +1,8 @@
+-- `codes::heard_code` meets its contract: which answer it is decides, and for a menu whether it is agreed.
+-- Assumes nothing.
 use mathlib.Core.Path.{_∙_}
 use Rattle.codes.proofs.Codes.{read-answer}
-use Rattle.laws.specs.Choice.{choose}
+use Rattle.laws.specs.Logic.{when}
 use borrow.Author.Needs.{needs}
 use Rattle.codes.proofs.heard_code.Statement.{statement}
 use Rattle.codes.proofs.heard_code.Tie as tie
@@ -20,31 +22,31 @@ enum-told-3 c = search needs
 enum-known-h-2 : tie.Need-enum-known-h-2
 enum-known-h-2 c = search needs
 
-refused-requires : tie.Need-refused-requires
-refused-requires c κs = search needs
+refusal-code-requires : tie.Need-refusal-code-requires
+refusal-code-requires c κs = search needs
 
 returns : tie.Need-returns
-unfolding choose
+unfolding when
 returns c = simp (c .enum-told .given .1)
 
 returns-2 : tie.Need-returns-2
-unfolding choose
+unfolding when
 returns-2 c = simp (c .enum-told2 .given .1)
 
 returns-3 : tie.Need-returns-3
-unfolding choose
+unfolding when
 returns-3 c = simp (c .if1 .taken, c .before .before .h .given .1)
 
 returns-4 : tie.Need-returns-4
-unfolding choose
+unfolding when
 returns-4 c = simp (c .if1 .left, c .before .before .h .given .1)
 
 returns-5 : tie.Need-returns-5
-unfolding choose
+unfolding when
 returns-5 c = simp (c .enum-told3 .given .1)
 
 returns-6 : tie.Need-returns-6
-returns-6 c = simp (c .before .before .h2 .given .1) (read-answer (c .refused .result) (c .refused .ok) ∙ c .refused .ensures)
+returns-6 c = simp (c .before .before .h2 .given .1) (read-answer (c .refusal-code .result) (c .refusal-code .ok) ∙ c .refusal-code .ensures)
 
 pub heard-code-spec : {M : Type 1} → statement M
 heard-code-spec =
@@ -55,7 +57,7 @@ heard-code-spec =
     enum-known-h
     enum-told-3
     enum-known-h-2
-    refused-requires
+    refusal-code-requires
     returns
     returns-2
     returns-3

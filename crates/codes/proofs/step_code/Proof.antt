@@ -1,3 +1,5 @@
+-- `codes::step_code` meets its contract: which answer it is decides; its byte, with 16 or 32 added, is held by an i32 as it is (`read-back`).
+-- Assumes nothing.
 use mathlib.Core.Path.{_∙_}
 use Rattle.codes.proofs.Codes.{read-back, read-answer}
 use borrow.Author.Needs.{needs}
@@ -40,8 +42,8 @@ cast-result-5 c = search needs
 enum-known-answer-4 : tie.Need-enum-known-answer-4
 enum-known-answer-4 c = search needs
 
-refused-requires : tie.Need-refused-requires
-refused-requires c κs = search needs
+refusal-code-requires : tie.Need-refusal-code-requires
+refusal-code-requires c κs = search needs
 
 returns : tie.Need-returns
 returns c = simp (c .enum-told .given .1)
@@ -56,7 +58,7 @@ returns-4 : tie.Need-returns-4
 returns-4 c = simp (c .before .answer3 .given .1) (read-back _ (cast-result-5 c .sfits))
 
 returns-5 : tie.Need-returns-5
-returns-5 c = simp (c .before .before .answer4 .given .1) (read-answer (c .refused .result) (c .refused .ok) ∙ c .refused .ensures)
+returns-5 c = simp (c .before .before .answer4 .given .1) (read-answer (c .refusal-code .result) (c .refusal-code .ok) ∙ c .refusal-code .ensures)
 
 pub step-code-spec : {M : Type 1} → statement M
 step-code-spec =
@@ -74,7 +76,7 @@ step-code-spec =
     add-result-2
     cast-result-5
     enum-known-answer-4
-    refused-requires
+    refusal-code-requires
     returns
     returns-2
     returns-3

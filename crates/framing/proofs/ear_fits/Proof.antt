@@ -1,5 +1,7 @@
+-- `framing::ear_fits` meets its contract: the two tests are those of `earInRange`, joined as there.
+-- Assumes nothing.
 use borrow.Author.Tests.{le-leb, lt-leb}
-use Rattle.laws.specs.Choice.{both}
+use Rattle.laws.specs.Logic.{both}
 use Rattle.framing.proofs.ear_fits.Statement.{statement}
 use Rattle.framing.proofs.ear_fits.Tie as tie
 

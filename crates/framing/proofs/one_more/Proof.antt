@@ -1,6 +1,8 @@
+-- `framing::one_more` meets its contract: whether fewer than 30 bits were heard decides, and there the sum fits.
+-- Assumes nothing.
 use Rattle.framing.specs.Framing.{more}
 use borrow.Author.Tests.{lt-ltb, le-ltb}
-use Rattle.laws.specs.Choice.{choose}
+use Rattle.laws.specs.Logic.{when}
 use borrow.Author.Needs.{needs}
 use Rattle.framing.proofs.one_more.Statement.{statement}
 use Rattle.framing.proofs.one_more.Tie as tie
@@ -9,11 +11,11 @@ add-result : tie.Need-add-result
 add-result c = search needs
 
 returns : tie.Need-returns
-unfolding choose more
+unfolding when more
 returns c = simp (lt-ltb _ _ (c .if1 .taken))
 
 returns-2 : tie.Need-returns-2
-unfolding choose more
+unfolding when more
 returns-2 c = simp (le-ltb _ _ (c .if1 .left))
 
 pub one-more-spec : {M : Type 1} → statement M

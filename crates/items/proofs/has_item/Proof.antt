@@ -1,8 +1,12 @@
-use mathlib.Core.Path.{sym}
+-- `items::has_item` meets its contract: the octet of the item's place is in the group and its bit decides, or no octet stands there and the item is
+-- absent.
+-- Assumes nothing.
+use borrow.Author.Needs.{needs}
+use borrow.Author.Tests.{le-ltb}
+use mathlib.Core.Path.{sym, _∙_}
 use denote.Ref.{now}
 use Rattle.items.specs.Items.{hasItem}
 use Rattle.items.proofs.Places.{place-bit, item-past}
-use borrow.Author.Needs.{needs}
 use Rattle.items.proofs.has_item.Statement.{statement}
 use Rattle.items.proofs.has_item.Tie as tie
 
@@ -16,7 +20,9 @@ shared-slice-read-has-bit : tie.Need-shared-slice-read-has-bit
 shared-slice-read-has-bit c = search needs
 
 has-bit-requires : tie.Need-has-bit-requires
-has-bit-requires c κs = rw (c .before .before .before .place-of .ensures) (place-bit (c .before .before .before .before .before .args .item .0) (c .before .before .before .before .before .pre))
+has-bit-requires c κs =
+    let placed = c .before .before .before in
+    rw (placed .place-of .ensures) (place-bit (placed .before .before .args .item .0) (placed .before .before .pre))
 
 returns : tie.Need-returns
 unfolding hasItem
@@ -24,8 +30,9 @@ returns c = simp (c .has-bit .ensures, c .before .before .before .before .place-
 
 returns-2 : tie.Need-returns-2
 returns-2 c =
-    let s = c .before .before .before .before in
-    sym (item-past (now (s .args .group)) (s .args .item .0) (s .pre) (rw (← c .before .before .place-of .ensures) (c .if1 .left)))
+    let placed = c .before .before in
+    let entry = placed .before .before in
+    le-ltb _ _ (c .if1 .left) ∙ sym (item-past (now (entry .args .group)) (entry .args .item .0) (entry .pre) (rw (← placed .place-of .ensures) (c .if1 .left)))
 
 pub has-item-spec : {M : Type 1} → statement M
 has-item-spec =

@@ -1,5 +1,8 @@
+-- `items::in_set` meets its contract: the bit of the item decides, and a set of 16 bits has none above 15.
+-- Assumes nothing.
 use borrow.Author.Needs.{needs}
-use mathlib.Core.Path.{refl, sym}
+use borrow.Author.Tests.{le-ltb}
+use mathlib.Core.Path.{refl, sym, _∙_}
 use Rattle.items.specs.Items.{inSet}
 use Rattle.items.proofs.Sets.{past-set}
 use Rattle.items.proofs.in_set.Statement.{statement}
@@ -16,7 +19,7 @@ unfolding inSet
 returns c = refl
 
 returns-2 : tie.Need-returns-2
-returns-2 c = sym (past-set (c .before .before .args .items) (c .before .before .args .item .0) (search needs) (c .if1 .left))
+returns-2 c = le-ltb _ _ (c .if1 .left) ∙ sym (past-set (c .before .before .args .items) (c .before .before .args .item .0) (search needs) (c .if1 .left))
 
 pub in-set-spec : {M : Type 1} → statement M
 in-set-spec = tie.close (tie.spec cast-result shr-result returns returns-2)

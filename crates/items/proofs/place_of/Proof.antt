@@ -1,3 +1,5 @@
+-- `items::place_of` meets its contract: the table of the code agrees with the places entry by entry.
+-- Assumes nothing.
 use Rattle.items.proofs.Places.{place-at}
 use borrow.Author.Needs.{needs}
 use Rattle.items.proofs.place_of.Statement.{statement}

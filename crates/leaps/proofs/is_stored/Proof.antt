@@ -1,7 +1,9 @@
+-- `leaps::is_stored` meets its contract: the four tests come in the order of `isStored`, and the first that fails decides.
+-- Assumes nothing.
 use borrow.Author.Needs.{needs}
 use borrow.Author.Tests.{lt-ltb, le-ltb, eq-eqb, ne-eqb}
-use Rattle.laws.specs.Choice.{both}
-use Rattle.leaps.specs.Leaps.{isStored}
+use Rattle.laws.specs.Logic.{both}
+use Rattle.leaps.specs.Inner.{isStored}
 use Rattle.leaps.proofs.is_stored.Statement.{statement}
 use Rattle.leaps.proofs.is_stored.Tie as tie
 

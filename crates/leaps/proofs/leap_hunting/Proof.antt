@@ -1,9 +1,12 @@
+-- `leaps::leap_hunting` meets its contract: behind the bits that go by, a menu sync is taken where ten 1s stand before it (`sync-leap`);
+-- where none stands, hunting goes on from there.
+-- Assumes nothing.
 use borrow.Author.Needs.{needs}
 use Prim.Native.Nat.{ℕ, _+_}
 use mathlib.Core.Path.{refl}
 use native.Mathlib.Omega.{arith}
 use denote.Ref.{now}
-use Rattle.leaps.specs.Leaps.{full, reached, afterTen, Leads}
+use Rattle.leaps.specs.Inner.{full, reached, afterTen, Leads}
 use Rattle.leaps.proofs.Steps.{stays, leads-asked, leads-behind}
 use Rattle.leaps.proofs.Tens.{sync-leap}
 use Rattle.leaps.proofs.leap_hunting.Statement.{statement}
@@ -25,23 +28,23 @@ reach-requires : tie.Need-reach-requires
 reach-requires c κs = search needs
 
 -- where there is no sync, hunting goes on
-hunts : (h : tie.After-pass-hunting) (len : ℕ) → Leads (full (h .before .before .args .past) 0) len (now (h .before .before .args .bits)) (h .before .before .args .from) (reached (h .pass-hunting .result .past) 0 0 (h .pass-hunting .result .at))
-hunts h len =
-    let p = h .pass-hunting .result in
-    let a = h .before .before .args in
-    leads-behind (a .past) len (now (a .bits)) (a .from) p _ (h .pass-hunting .ensures) (stays (full (p .past) 0) len (now (a .bits)) (p .at))
+hunts : (passed : tie.After-pass-hunting) (len : ℕ) → Leads (full (passed .before .before .args .past) 0) len (now (passed .before .before .args .bits)) (passed .before .before .args .from) (reached (passed .pass-hunting .result .past) 0 0 (passed .pass-hunting .result .at))
+hunts passed len =
+    let behind = passed .pass-hunting .result in
+    let given = passed .before .before .args in
+    leads-behind (given .past) len (now (given .bits)) (given .from) behind _ (passed .pass-hunting .ensures) (stays (full (behind .past) 0) len (now (given .bits)) (behind .at))
 
 returns : tie.Need-returns
 returns c =
-    let h = c .before .before .before .before .before in
-    let p = h .pass-hunting .result in
-    let passes = h .pass-hunting .ensures in
-    let a = h .before .before .args in
-    let s = now (a .bits) in
+    let passed = c .before .before .before .before .before in
+    let behind = passed .pass-hunting .result in
+    let passes = passed .pass-hunting .ensures in
+    let given = passed .before .before .args in
+    let bits = now (given .bits) in
     let ones = c .before .before .before .before .if1 .taken in
     let sync = c .before .before .before .menu-sync-at .ensures (c .before .before .if2 .taken) in
     rw (c .reach .ensures, c .before .after-ten .ensures)
-    (λ len. leads-behind (a .past) len s (a .from) p _ passes (leads-asked (full (p .past) 0) len s (p .at) (reached (afterTen (p .past) 960) 10 2 (p .at + 10)) (omega arith) (λ z. omega (arith, z)) (sync-leap s len (p .at) (p .past) 960 sync (omega (arith, ones)) (passes .small) ones refl)))
+    (λ len. leads-behind (given .past) len bits (given .from) behind _ passes (leads-asked (full (behind .past) 0) len bits (behind .at) (reached (afterTen (behind .past) 960) 10 2 (behind .at + 10)) (omega arith) (λ z. omega (arith, z)) (sync-leap bits len (behind .at) (behind .past) 960 sync (omega (arith, ones)) (passes .small) ones refl)))
 
 reach-requires-2 : tie.Need-reach-requires-2
 reach-requires-2 c κs = search needs

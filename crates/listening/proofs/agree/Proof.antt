@@ -1,10 +1,13 @@
+-- `listening::agree` meets its contract: the three tests come in the order of `agreed`, each where those before it hold; what is read and
+-- compared are the first octets of both messages, as many as each has.
+-- Assumes nothing.
 use Prim.Native.Nat.{ℕ}
 use mathlib.Core.Path.{_≡_, sym, ap, _∙_}
 use mathlib.Core.List.{List}
 use borrow.Author.Tests.{eq-eqb, ne-eqb}
 use lib.Dec.{eqb}
 use denote.Ref.{now}
-use Rattle.laws.specs.Choice.{both}
+use Rattle.laws.specs.Logic.{both}
 use Rattle.laws.specs.Tests.{sameList}
 use Rattle.octets.specs.declared.Purpose.the-variants.{Reading}
 use Rattle.octets.specs.Lists.{listFault}
@@ -14,8 +17,8 @@ use Rattle.listening.proofs.agree.Statement.{statement}
 use Rattle.listening.proofs.agree.Tie as tie
 
 -- what reading the first octets says of the message
-reading : (t : tie.After-readable) → eqb (listFault Reading (octetsOf (t .before .before .before .before .before .before .args .m))) 0 ≡ t .readable .result
-reading t = ap (λ (l : List ℕ). eqb (listFault Reading l) 0) (sym (t .before .first .ensures)) ∙ sym (t .readable .ensures)
+reading : (after-read : tie.After-can-read) → eqb (listFault Reading (octetsOf (after-read .before .before .before .before .before .before .args .m))) 0 ≡ after-read .can-read .result
+reading after-read = ap (λ (menu : List ℕ). eqb (listFault Reading menu) 0) (sym (after-read .before .first .ensures)) ∙ sym (after-read .can-read .ensures)
 
 slice-aggregate-first : tie.Need-slice-aggregate-first
 slice-aggregate-first c = search needs
@@ -26,8 +29,8 @@ cast-first c = search needs
 first-requires : tie.Need-first-requires
 first-requires c κs = search needs
 
-readable-requires : tie.Need-readable-requires
-readable-requires c κs = search needs
+can-read-requires : tie.Need-can-read-requires
+can-read-requires c κs = search needs
 
 slice-aggregate-first-2 : tie.Need-slice-aggregate-first-2
 slice-aggregate-first-2 c = search needs
@@ -44,17 +47,17 @@ same-requires c κs = search needs
 returns : tie.Need-returns
 unfolding agreed both
 returns c =
-    let t = c .before .before .before .before .before .before in
-    let heard = t .before .first .ensures in
+    let after-read = c .before .before .before .before .before .before in
+    let heard = after-read .before .first .ensures in
     let before = c .before .first2 .ensures in
-    simp (reading t, c .before .before .before .before .before .if1 .taken, eq-eqb _ _ (c .before .before .before .before .if2 .taken))
-    (c .same .ensures ∙ ap (λ (l : List ℕ). sameList l (now (c .before .first2 .result))) heard ∙ ap (λ (l : List ℕ). sameList (octetsOf (t .before .before .before .before .before .before .args .m)) l) before)
+    simp (reading after-read, c .before .before .before .before .before .if1 .taken, eq-eqb _ _ (c .before .before .before .before .if2 .taken))
+    (c .same .ensures ∙ ap (λ (menu : List ℕ). sameList menu (now (c .before .first2 .result))) heard ∙ ap (λ (menu : List ℕ). sameList (octetsOf (after-read .before .before .before .before .before .before .args .m)) menu) before)
 
 returns-2 : tie.Need-returns-2
 unfolding agreed both
 returns-2 c =
-    let t = c .before .before in
-    simp (reading t, c .before .if1 .taken, ne-eqb _ _ (c .if2 .left))
+    let after-read = c .before .before in
+    simp (reading after-read, c .before .if1 .taken, ne-eqb _ _ (c .if2 .left))
 
 returns-3 : tie.Need-returns-3
 unfolding agreed both
@@ -67,7 +70,7 @@ agree-spec =
     slice-aggregate-first
     cast-first
     first-requires
-    readable-requires
+    can-read-requires
     slice-aggregate-first-2
     cast-first-2
     first-requires-2

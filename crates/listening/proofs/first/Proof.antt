@@ -1,3 +1,5 @@
+-- `listening::first` meets its contract: whether there are n octets decides; where there are fewer, the first n are all of them.
+-- Assumes nothing.
 use mathlib.Core.Path.{sym}
 use lib.Seq.{length-take-le, take-all}
 use denote.Ref.{now}

@@ -1,3 +1,5 @@
+-- `listening::fresh_line` meets its contract: both messages are the empty one, and the ear is written out as `fresh` has it.
+-- Assumes nothing.
 use borrow.Author.Needs.{needs}
 use Rattle.listening.proofs.fresh_line.Statement.{statement}
 use Rattle.listening.proofs.fresh_line.Tie as tie

@@ -1,5 +1,7 @@
+-- `listening::message_fits` meets its contract: the two tests are those of `messageInRange`, in its order.
+-- Assumes nothing.
 use borrow.Author.Tests.{le-leb, lt-leb}
-use Rattle.laws.specs.Choice.{both}
+use Rattle.laws.specs.Logic.{both}
 use Rattle.listening.proofs.message_fits.Statement.{statement}
 use Rattle.listening.proofs.message_fits.Tie as tie
 

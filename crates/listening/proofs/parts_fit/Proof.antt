@@ -1,4 +1,6 @@
-use Rattle.laws.specs.Choice.{both}
+-- `listening::parts_fit` meets its contract: the three tests are those of `partsInRange`, in its order.
+-- Assumes nothing.
+use Rattle.laws.specs.Logic.{both}
 use borrow.Author.Needs.{needs}
 use Rattle.listening.proofs.parts_fit.Statement.{statement}
 use Rattle.listening.proofs.parts_fit.Tie as tie

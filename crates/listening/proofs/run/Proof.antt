@@ -1,83 +1,91 @@
+-- `listening::run` meets its contract. Invariant: to hear all bits from the start is to hear those that are left into the record as it stands. A turn
+-- hears bits up to the first that asks for something (`advanced-heard`), and does that.
+-- Assumes nothing.
 use borrow.Author.Needs.{needs}
+use native.Mathlib.Omega.{arith}
 use Prim.Native.Nat.{_<_, _≤_, _-_}
 use mathlib.Core.Path.{_≡_, refl, sym, ap, _∙_}
 use lib.ListN.{length, drop}
 use denote.Ref.{now}
-use Rattle.listening.specs.Record.{Fits}
-use Rattle.listening.specs.Hearing.{changed, listened}
+use Rattle.listening.specs.Hearing.{listened, listenerOf, acted}
 use Rattle.listening.specs.declared.Listener.{Listener}
-use Rattle.leaps.proofs.Ranges.{AskFits, lastStep, advanced-fits, advanced-takes}
-use Rattle.listening.proofs.Acts.{changed-store}
-use Rattle.listening.proofs.Ranges.{changed-fits}
-use Rattle.listening.proofs.Many.{listened-end, onward, onward-told, onward-quiet, onward-not-a-bit, advanced-heard}
+use Rattle.leaps.proofs.Ranges.{advanced-takes}
+use Rattle.listening.proofs.Acts.{changed-store, told-report, told-other}
+use Rattle.listening.proofs.Many.{lastTurn, behind, listened-end, onward, onward-told, onward-quiet, advanced-heard}
 use Rattle.listening.proofs.run.Statement.{statement}
 use Rattle.listening.proofs.run.Tie as tie
 
 abbrev Inv-loop : tie.InvT-loop
-Inv-loop bits ear₀ msg₀ last i₀ ear msg i = Fits (record { ear = ear; msg = msg; last = last }) × (listened (record { ear = ear₀; msg = msg₀; last = last }) bits 0 ≡ listened (record { ear = ear; msg = msg; last = last }) (drop i bits) i)
+Inv-loop bits ear₀ msg₀ last i₀ ear msg i = listened (record { ear = ear₀; msg = msg₀; last = last }) bits 0 ≡ listened (record { ear = ear; msg = msg; last = last }) (drop i bits) i
 
 abbrev μ-loop : tie.MeasureT-loop
 μ-loop bits ear₀ msg₀ last i₀ ear msg i = length bits - i
 
 -- the record as it stands at the loop's head
-abbrev held : (l : tie.At-loop Inv-loop μ-loop) → Listener
-held l = record { ear = l .loop .ear; msg = l .loop .msg; last = l .before .before .before .before .before .args .rec .last }
+abbrev held : (at-loop : tie.At-loop Inv-loop μ-loop) → Listener
+held at-loop = record { ear = at-loop .loop .ear; msg = at-loop .loop .msg; last = at-loop .before .before .before .before .before .args .rec .last }
 
 -- bits are heard up to the first that asks for something
-goes : (t : tie.After-advance Inv-loop μ-loop) → listened (t .before .before .before .before .before .before .before .args .rec) (now (t .before .before .before .before .before .before .before .args .bits)) 0 ≡ onward (held (t .before .before)) (now (t .before .before .before .before .before .before .before .args .bits)) (t .advance .result)
-goes t =
-    let l = t .before .before in
-    let s = now (t .before .before .before .before .before .before .before .args .bits) in
-    l .loop .inv .1 ∙ advanced-heard s (held l) (l .loop .i) ∙ ap (onward (held l) s) (sym (t .advance .ensures))
-
--- what that is fits the record
-fitting : (t : tie.After-advance Inv-loop μ-loop) → AskFits (t .before .before .loop .msg .len) (lastStep (t .advance .result))
-fitting t =
-    let l = t .before .before in
-    rw (t .advance .ensures) (advanced-fits (l .loop .msg .len) (l .loop .inv .0 .msg .len) (l .loop .ear) (drop (l .loop .i) (now (t .before .before .before .before .before .before .before .args .bits))) (l .loop .i) (l .loop .inv .0 .ear))
+goes : (after : tie.After-advance Inv-loop μ-loop) → listened (after .before .before .before .before .before .before .before .args .rec) (now (after .before .before .before .before .before .before .before .args .bits)) 0 ≡ onward (held (after .before .before)) (now (after .before .before .before .before .before .before .before .args .bits)) (after .advance .result)
+goes after =
+    let at-loop = after .before .before in
+    let bits = now (after .before .before .before .before .before .before .before .args .bits) in
+    at-loop .loop .inv ∙ advanced-heard bits (held at-loop) (at-loop .loop .i) ∙ ap (onward (held at-loop) bits) (sym (after .advance .ensures))
 
 -- at least one bit was taken
-taken : (t : tie.After-advance Inv-loop μ-loop) → t .before .before .loop .i < t .advance .result .at
-taken t =
-    let l = t .before .before in
-    rw (t .advance .ensures) (advanced-takes (l .loop .ear) (l .loop .msg .len) (now (t .before .before .before .before .before .before .before .args .bits)) (l .loop .i) (t .before .loop-test .taken))
+taken : (after : tie.After-advance Inv-loop μ-loop) → after .before .before .loop .i < after .advance .result .at
+taken after =
+    let at-loop = after .before .before in
+    rw (after .advance .ensures) (advanced-takes (at-loop .loop .ear) (at-loop .loop .msg .len) (now (after .before .before .before .before .before .before .before .args .bits)) (at-loop .loop .i) (after .before .loop-test .taken))
 
--- the record behind a bit that tells nothing
-abbrev next : (t : tie.After-advance Inv-loop μ-loop) → Listener
-next t =
-    let a = t .advance .result in
-    record { ear = a .ear; msg = changed (t .before .before .loop .msg) (a .act) (a .ear .past); last = t .before .before .before .before .before .before .before .args .rec .last }
-
-quiet : (t : tie.After-advance Inv-loop μ-loop) → (t .advance .result .act ≡ 17 → ⊥) → t .advance .result .act ≤ 3
-    → Fits (next t) × (listened (t .before .before .before .before .before .before .before .args .rec) (now (t .before .before .before .before .before .before .before .args .bits)) 0 ≡ listened (next t) (drop (t .advance .result .at) (now (t .before .before .before .before .before .before .before .args .bits))) (t .advance .result .at))
-quiet t bit low =
-    let l = t .before .before in
-    let a = t .advance .result in
-    let f = fitting t in (
-      record { ear = f .ear; msg = changed-fits (l .loop .msg) (a .act) (a .ear .past) (l .loop .inv .0 .msg) (f .act bit); last = l .loop .inv .0 .last },
-      goes t ∙ onward-quiet (held l) (now (t .before .before .before .before .before .before .before .args .bits)) a low,
-    )
+-- where the last of them tells nothing, the others are left
+quiet : (after : tie.After-advance Inv-loop μ-loop) → after .advance .result .act < 4
+    → listened (after .before .before .before .before .before .before .before .args .rec) (now (after .before .before .before .before .before .before .before .args .bits)) 0 ≡ listened (behind (held (after .before .before)) (lastTurn (after .advance .result))) (drop (after .advance .result .at) (now (after .before .before .before .before .before .before .before .args .bits))) (after .advance .result .at)
+quiet after low = goes after ∙ onward-quiet (held (after .before .before)) (now (after .before .before .before .before .before .before .before .args .bits)) (after .advance .result) low
 
 loop-holds : tie.Need-loop-holds Inv-loop μ-loop
-loop-holds c = (c .before .before .before .before .pre, refl)
+loop-holds c = refl
 
 advance-requires : tie.Need-advance-requires Inv-loop μ-loop
 advance-requires c κs = search needs
 
-returns : tie.Need-returns Inv-loop μ-loop
-returns c =
-    let t = c .before .before in
-    rw (goes t ∙ onward-not-a-bit (held (t .before .before)) (now (t .before .before .before .before .before .before .before .args .bits)) (t .advance .result) (c .if1 .taken)) (record { heard = refl; rec = refl; taken = refl })
+act-on-requires : tie.Need-act-on-requires Inv-loop μ-loop
+act-on-requires c κs = search needs
 
-finish-requires : tie.Need-finish-requires Inv-loop μ-loop
-finish-requires c κs =
-    let t = c .before .before .before in
-    fitting t .act (c .before .if1 .left)
+listener-of-requires : tie.Need-listener-of-requires Inv-loop μ-loop
+listener-of-requires c κs = search needs
+
+report-of-requires : tie.Need-report-of-requires Inv-loop μ-loop
+report-of-requires c κs = search needs
+
+returns : tie.Need-returns Inv-loop μ-loop
+unfolding acted
+returns c =
+    let asked = c .before .before .before in
+    let after = asked .before .before in
+    let at-loop = after .before .before in
+    let reports = asked .if1 .taken in
+    rw (goes after ∙ onward-told (held at-loop) (now (after .before .before .before .before .before .before .before .args .bits)) (after .advance .result) (omega (arith, reports)))
+    (record { report = c .report-of .ensures ∙ sym (told-report (after .advance .result .act) (at-loop .loop .msg) (held at-loop .last) reports); rec = c .before .listener-of .ensures ∙ ap (listenerOf (after .advance .result .ear)) (c .before .before .act-on .ensures); taken = refl })
+
+act-on-requires-2 : tie.Need-act-on-requires-2 Inv-loop μ-loop
+act-on-requires-2 c κs = search needs
+
+listener-of-requires-2 : tie.Need-listener-of-requires-2 Inv-loop μ-loop
+listener-of-requires-2 c κs = search needs
+
+tell-alone-requires : tie.Need-tell-alone-requires Inv-loop μ-loop
+tell-alone-requires c κs = search needs
 
 returns-2 : tie.Need-returns-2 Inv-loop μ-loop
+unfolding acted
 returns-2 c =
-    let t = c .before .before .before .before in
-    rw (goes t ∙ onward-told (held (t .before .before)) (now (t .before .before .before .before .before .before .before .args .bits)) (t .advance .result) (c .before .if2 .taken)) (c .finish .ensures)
+    let asked = c .before .before .before in
+    let after = asked .before .before .before in
+    let at-loop = after .before .before in
+    let other : after .advance .result .act ≡ 4 → ⊥ = λ e. asked .before .if1 .left e in
+    rw (goes after ∙ onward-told (held at-loop) (now (after .before .before .before .before .before .before .before .args .bits)) (after .advance .result) (omega (arith, asked .if2 .taken)))
+    (record { report = c .tell-alone .ensures ∙ sym (told-other (after .advance .result .act) (at-loop .loop .msg) (held at-loop .last) other); rec = c .before .listener-of2 .ensures ∙ ap (listenerOf (after .advance .result .ear)) (c .before .before .act-on2 .ensures); taken = refl })
 
 cast-at : tie.Need-cast-at Inv-loop μ-loop
 cast-at c = search needs
@@ -86,38 +94,36 @@ octet-heard-requires : tie.Need-octet-heard-requires Inv-loop μ-loop
 octet-heard-requires c κs = search needs
 
 element-write-msg : tie.Need-element-write-msg Inv-loop μ-loop
-element-write-msg c = let t = c .before .before .before .before .before in let room = fitting t .act (c .before .before .before .if1 .left) .room (c .before .if3 .taken) in search needs
+element-write-msg c = search needs
 
 add-msg : tie.Need-add-msg Inv-loop μ-loop
-add-msg c = let t = c .before .before .before .before .before in let room = fitting t .act (c .before .before .before .if1 .left) .room (c .before .if3 .taken) in search needs
+add-msg c = search needs
 
 loop-less : tie.Need-loop-less Inv-loop μ-loop
 loop-less c = let some = taken (c .before .before .before .before .before) in search needs
 
 loop-again : tie.Need-loop-again Inv-loop μ-loop
 loop-again c =
-    let t = c .before .before .before .before .before in
-    let a = t .advance .result in
-    rw (c .octet-heard .ensures, ← changed-store (t .before .before .loop .msg) (a .act) (a .ear .past) (c .before .if3 .taken)) (quiet t (c .before .before .before .if1 .left) (c .before .before .if2 .left))
+    let after = c .before .before .before .before .before in
+    let a = after .advance .result in
+    rw (c .octet-heard .ensures, ← changed-store (after .before .before .loop .msg) (a .act) (a .ear .past) (c .before .if3 .taken)) (quiet after (omega (arith, c .before .before .if2 .left, c .before .before .before .if1 .left)))
 
 change-requires : tie.Need-change-requires Inv-loop μ-loop
-change-requires c κs =
-    let t = c .before .before .before .before in
-    fitting t .act (c .before .before .if1 .left) .room
+change-requires c κs = search needs
 
 loop-less-2 : tie.Need-loop-less-2 Inv-loop μ-loop
 loop-less-2 c = let some = taken (c .before .before .before .before .before) in search needs
 
 loop-again-2 : tie.Need-loop-again-2 Inv-loop μ-loop
 loop-again-2 c =
-    let t = c .before .before .before .before .before in
-    rw (c .change .ensures) (quiet t (c .before .before .before .if1 .left) (c .before .before .if2 .left))
+    let after = c .before .before .before .before .before in
+    rw (c .change .ensures) (quiet after (omega (arith, c .before .before .if2 .left, c .before .before .before .if1 .left)))
 
 returns-3 : tie.Need-returns-3 Inv-loop μ-loop
 returns-3 c =
-    let l = c .before in
-    let s = now (l .before .before .before .before .before .args .bits) in
-    rw (l .loop .inv .1 ∙ listened-end (held l) s (l .loop .i) (l .loop .i) (c .loop-test .left)) (record { heard = refl; rec = refl; taken = refl })
+    let at-loop = c .before in
+    let bits = now (at-loop .before .before .before .before .before .args .bits) in
+    rw (at-loop .loop .inv ∙ listened-end (held at-loop) bits (at-loop .loop .i) (at-loop .loop .i) (c .loop-test .left)) (record { report = refl; rec = refl; taken = refl })
 
 pub run-spec : {M : Type 1} → statement M
 run-spec =
@@ -127,8 +133,13 @@ run-spec =
     μ-loop
     loop-holds
     advance-requires
+    act-on-requires
+    listener-of-requires
+    report-of-requires
     returns
-    finish-requires
+    act-on-requires-2
+    listener-of-requires-2
+    tell-alone-requires
     returns-2
     cast-at
     octet-heard-requires

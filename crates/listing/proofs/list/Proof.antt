@@ -1,17 +1,17 @@
-use mathlib.Core.Path.{sym, ap, _∙_}
+-- `listing::list` meets its contract. Invariant: the record is in its range, and the places in the bits and on the page are within them;
+-- it ends since the listener takes at least one bit in each turn.
+-- Assumes nothing.
+use mathlib.Core.Path.{_≡_, sym, ap, _∙_}
 use lib.Seq.{length-take-le}
 use denote.Ref.{now}
-use lib.ListN.{take, drop, length-drop}
-use Prim.Native.Nat.{_<_, _+_}
+use lib.ListN.{length, take, drop, length-drop}
+use Prim.Native.Nat.{_<_, _≤_, _+_, _-_}
 use Rattle.laws.proofs.Rest.{rest-of}
-use Rattle.listening.specs.Hearing.{Many}
-use Rattle.listening.proofs.Many.{listened-takes, listened-fits, many-in}
+use Rattle.listening.specs.Hearing.{ManyOutcome}
+use Rattle.listening.proofs.Many.{listened-takes, listened-fits, bits-in}
 use borrow.Author.Needs.{needs}
 use native.Mathlib.Omega.{arith}
-use Prim.Native.Nat.{_≤_, _-_}
-use mathlib.Core.Path.{_≡_}
-use lib.ListN.{length}
-use Rattle.listening.specs.Record.{Fits}
+use Rattle.listening.proofs.Ranges.{Fits}
 use Rattle.listing.proofs.list.Statement.{statement}
 use Rattle.listing.proofs.list.Tie as tie
 
@@ -22,22 +22,22 @@ abbrev μ-loop : tie.MeasureT-loop
 μ-loop bits out₀ rec₀ count₀ at₀ n₀ out rec count at n = length bits - at
 
 -- what many bits leave: a record in range, and between one and all of the bits taken
-record Held (t : tie.After-hear-many Inv-loop μ-loop) : Type 0 where
-  fits : Fits (t .hear-many .result .rec)
-  some : 0 < t .hear-many .result .taken
-  most : t .before .before .before .loop .at + t .hear-many .result .taken ≤ length (now (t .before .before .before .before .before .before .before .args .bits))
+record Held (heard : tie.After-hear-many Inv-loop μ-loop) : Type 0 where
+  fits : Fits (heard .hear-many .result .rec)
+  some : 0 < heard .hear-many .result .taken
+  most : heard .before .before .before .loop .at + heard .hear-many .result .taken ≤ length (now (heard .before .before .before .before .before .before .before .args .bits))
 
-held : (t : tie.After-hear-many Inv-loop μ-loop) → Held t
-held t =
-    let l = t .before .before .before in
-    let bits = now (l .before .before .before .before .args .bits) in
-    let rest = take (length bits - l .loop .at) (drop (l .loop .at) bits) in
-    let m = many-in (l .loop .rec) rest (l .loop .inv .0) in
-    let takes = listened-takes (l .loop .rec) rest 0 in
-    let n = ap length (rest-of bits (l .loop .at)) ∙ length-drop (l .loop .at) bits in
-    let taken = t .hear-many .ensures .taken ∙ ap (λ (x : Many). x .taken) m in
+held : (heard : tie.After-hear-many Inv-loop μ-loop) → Held heard
+held heard =
+    let at-loop = heard .before .before .before in
+    let bits = now (at-loop .before .before .before .before .args .bits) in
+    let rest = take (length bits - at-loop .loop .at) (drop (at-loop .loop .at) bits) in
+    let in-range = bits-in (at-loop .loop .rec) rest (at-loop .loop .inv .0) in
+    let takes = listened-takes (at-loop .loop .rec) rest 0 in
+    let rest-long = ap length (rest-of bits (at-loop .loop .at)) ∙ length-drop (at-loop .loop .at) bits in
+    let taken = heard .hear-many .ensures .taken ∙ ap (λ (outcome : ManyOutcome). outcome .taken) in-range in
     record {
-      fits = rw (t .hear-many .ensures .rec ∙ ap (λ (x : Many). x .rec) m) (listened-fits (l .loop .rec) rest 0 (l .loop .inv .0));
+      fits = rw (heard .hear-many .ensures .rec ∙ ap (λ (outcome : ManyOutcome). outcome .rec) in-range) (listened-fits (at-loop .loop .rec) rest 0 (at-loop .loop .inv .0));
       some = omega (arith, taken, takes .some (omega arith));
       most = omega (arith, taken, takes .most);
     }
@@ -77,16 +77,18 @@ wrapping-add-u64-requires-2 c κs = search needs
 
 add-at : tie.Need-add-at Inv-loop μ-loop
 add-at c =
-    let t = c .before .before .before .before .before .before .before .before .before .before .before in
-    omega (arith, held t .most, t .before .before .before .before .before .before .before .good)
+    let heard = c .before .before .before .before .before .before .before .before .before .before .before in
+    omega (arith, held heard .most, heard .before .before .before .before .before .before .before .good)
 
 loop-less : tie.Need-loop-less Inv-loop μ-loop
-loop-less c = let h = held (c .before .before .before .before .before .before .before .before .before .before .before) in omega (arith, h .some, h .most)
+loop-less c =
+    let after = held (c .before .before .before .before .before .before .before .before .before .before .before) in
+    omega (arith, after .some, after .most)
 
 loop-again : tie.Need-loop-again Inv-loop μ-loop
 loop-again c =
-    let h = held (c .before .before .before .before .before .before .before .before .before .before .before) in
-    (h .fits, omega (arith, h .most), search needs, search needs)
+    let after = held (c .before .before .before .before .before .before .before .before .before .before .before) in
+    (after .fits, omega (arith, after .most), search needs, search needs)
 
 slice-reshare-prefix-write-all : tie.Need-slice-reshare-prefix-write-all Inv-loop μ-loop
 slice-reshare-prefix-write-all c = search needs

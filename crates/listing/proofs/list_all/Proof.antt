@@ -1,8 +1,9 @@
+-- `listing::list_all` is safe and ends. Invariant: the record is in its range, at first as a fresh line and then as each block leaves it.
+-- Assumes nothing.
 use borrow.Author.Needs.{needs}
 use mathlib.Core.Path.{_≡_, refl}
 use lib.ListN.{length}
-use Rattle.listening.specs.Record.{Fits}
-use Rattle.listening.proofs.Ranges.{fresh-fits}
+use Rattle.listening.proofs.Ranges.{Fits, fresh-fits}
 use Rattle.listing.proofs.list_all.Statement.{statement}
 use Rattle.listing.proofs.list_all.Tie as tie
 

@@ -1,3 +1,5 @@
+-- `listing::make_room` meets its contract: whether little room is left decides; the place is then the start of the page, or stays.
+-- Assumes nothing.
 use mathlib.Core.Path.{sym}
 use lib.Seq.{length-take-le}
 use denote.Ref.{now}

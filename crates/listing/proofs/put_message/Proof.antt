@@ -1,3 +1,6 @@
+-- `listing::put_message` meets its contract: whether the stored octets hold as many as the message has decides, and either way the place
+-- stays within the page.
+-- Assumes nothing.
 use mathlib.Core.Path.{sym}
 use lib.Seq.{length-take-le}
 use borrow.Author.Needs.{needs}

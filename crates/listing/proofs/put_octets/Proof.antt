@@ -1,3 +1,5 @@
+-- `listing::put_octets` meets its contract. Invariant: the place stays within the page, which stays as long as it was lent.
+-- Assumes nothing.
 use borrow.Author.Needs.{needs}
 use Prim.Native.Nat.{_≤_, _-_}
 use mathlib.Core.Path.{_≡_}

@@ -1,3 +1,6 @@
+-- `listing::put_refusal` meets its contract: each field is typed from where the one before ended, and what is typed from within the page
+-- ends within it.
+-- Assumes nothing.
 use borrow.Author.Needs.{needs}
 use Rattle.printing.proofs.Pages.{text-within, decimal-within}
 use Rattle.listing.proofs.put_refusal.Statement.{statement}

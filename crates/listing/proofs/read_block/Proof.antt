@@ -1,3 +1,5 @@
+-- `listing::read_block` meets its contract: whether anything was read decides; the record is in its range as it was, or as `list` leaves it.
+-- Assumes nothing.
 use mathlib.Core.Path.{sym}
 use lib.Seq.{length-take-le}
 use lib.ListN.{length-append}

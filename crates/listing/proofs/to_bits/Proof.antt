@@ -1,3 +1,5 @@
+-- `listing::to_bits` meets its contract. Invariant: no more bits were kept than characters read, so each is stored over one that was read.
+-- Assumes nothing.
 use borrow.Author.Needs.{needs}
 use native.Mathlib.Omega.{arith}
 use Prim.Native.Nat.{_≤_, _-_}

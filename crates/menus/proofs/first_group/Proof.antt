@@ -1,3 +1,5 @@
+-- `menus::first_group` meets its contract. Invariant: no octet before place i opens a group of the tag, so the first group is the first from i on.
+-- Assumes nothing.
 use borrow.Author.Needs.{needs}
 use Prim.Native.Nat.{_-_}
 use mathlib.Core.Path.{_≡_, refl, sym, _∙_}
@@ -25,9 +27,9 @@ opens-group-requires c κs = search needs
 
 returns : tie.Need-returns Inv-loop μ-loop
 returns c =
-    let l = c .before .before .before .before in
-    let a = l .before .before .args in
-    sym (l .loop .inv ∙ group-here (a .tag) (now (a .octets)) (l .loop .i) (search needs) (sym (c .before .opens-group .ensures) ∙ c .if1 .taken))
+    let at-loop = c .before .before .before .before in
+    let args = at-loop .before .before .args in
+    sym (at-loop .loop .inv ∙ group-here (args .tag) (now (args .octets)) (at-loop .loop .i) (search needs) (sym (c .before .opens-group .ensures) ∙ c .if1 .taken))
 
 add-i : tie.Need-add-i Inv-loop μ-loop
 add-i c = search needs
@@ -37,15 +39,15 @@ loop-less c = search needs
 
 loop-again : tie.Need-loop-again Inv-loop μ-loop
 loop-again c =
-    let l = c .before .before .before .before in
-    let a = l .before .before .args in
-    l .loop .inv ∙ group-later (a .tag) (now (a .octets)) (l .loop .i) (search needs) (sym (c .before .opens-group .ensures) ∙ c .if1 .left)
+    let at-loop = c .before .before .before .before in
+    let args = at-loop .before .before .args in
+    at-loop .loop .inv ∙ group-later (args .tag) (now (args .octets)) (at-loop .loop .i) (search needs) (sym (c .before .opens-group .ensures) ∙ c .if1 .left)
 
 returns-2 : tie.Need-returns-2 Inv-loop μ-loop
 returns-2 c =
-    let l = c .before in
-    let a = l .before .before .args in
-    sym (l .loop .inv ∙ group-none (a .tag) (now (a .octets)) (l .loop .i) (c .loop-test .left))
+    let at-loop = c .before in
+    let args = at-loop .before .before .args in
+    sym (at-loop .loop .inv ∙ group-none (args .tag) (now (args .octets)) (at-loop .loop .i) (c .loop-test .left))
 
 pub first-group-spec : {M : Type 1} → statement M
 first-group-spec =

@@ -1,3 +1,5 @@
+-- `menus::found_at` meets its contract: a spot says the same as what is found there.
+-- Assumes nothing.
 use borrow.Author.Needs.{needs}
 use Rattle.menus.proofs.found_at.Statement.{statement}
 use Rattle.menus.proofs.found_at.Tie as tie

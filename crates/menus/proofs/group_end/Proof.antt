@@ -1,3 +1,6 @@
+-- `menus::group_end` meets its contract. Invariant: every octet from `from` up to place i is an extension octet, so the group ends where the octets
+-- from i on end it.
+-- Assumes nothing.
 use borrow.Author.Needs.{needs}
 use native.Mathlib.Omega.{arith}
 use Prim.Native.Nat.{_≤_, _+_, _-_}
@@ -23,10 +26,10 @@ group-ends-requires c κs = search needs
 
 returns : tie.Need-returns Inv-loop μ-loop
 returns c =
-    let t = c .before in
-    let l = t .before .before in
-    let ends = group-end (now (l .before .before .args .octets)) (l .loop .i) (sym (t .group-ends .ensures) ∙ c .if1 .taken) in
-    (omega (arith, l .loop .inv .2), l .loop .inv .1)
+    let asked = c .before in
+    let at-loop = asked .before .before in
+    let ends = group-end (now (at-loop .before .before .args .octets)) (at-loop .loop .i) (sym (asked .group-ends .ensures) ∙ c .if1 .taken) in
+    (omega (arith, at-loop .loop .inv .2), at-loop .loop .inv .1)
 
 add-i : tie.Need-add-i Inv-loop μ-loop
 add-i c = search needs
@@ -36,16 +39,16 @@ loop-less c = search needs
 
 loop-again : tie.Need-loop-again Inv-loop μ-loop
 loop-again c =
-    let t = c .before in
-    let l = t .before .before in
-    let on = group-on (now (l .before .before .args .octets)) (l .loop .i) (sym (t .group-ends .ensures) ∙ c .if1 .left) in
-    (search needs, search needs, omega (arith, l .loop .inv .2, on .1))
+    let asked = c .before in
+    let at-loop = asked .before .before in
+    let on = group-on (now (at-loop .before .before .args .octets)) (at-loop .loop .i) (sym (asked .group-ends .ensures) ∙ c .if1 .left) in
+    (search needs, search needs, omega (arith, at-loop .loop .inv .2, on .1))
 
 returns-2 : tie.Need-returns-2 Inv-loop μ-loop
 returns-2 c =
-    let l = c .before in
-    let ends = until-end (now (l .before .before .args .octets)) (l .loop .i) (c .loop-test .left) in
-    (omega (arith, l .loop .inv .2), l .loop .inv .1)
+    let at-loop = c .before in
+    let ends = until-end (now (at-loop .before .before .args .octets)) (at-loop .loop .i) (c .loop-test .left) in
+    (omega (arith, at-loop .loop .inv .2), at-loop .loop .inv .1)
 
 pub group-end-spec : {M : Type 1} → statement M
 group-end-spec =

@@ -1,3 +1,5 @@
+-- `menus::group_of` meets its contract: where the tag is found its part is handed back, otherwise the empty part.
+-- Assumes nothing.
 use Rattle.menus.specs.Groups.{groupOf}
 use borrow.Author.Needs.{needs}
 use Rattle.menus.proofs.group_of.Statement.{statement}

@@ -1,3 +1,5 @@
+-- `menus::options_in` meets its contract: whether the group has an octet decides.
+-- Assumes nothing.
 use lib.ListN.{List·getD-eq-default}
 use native.Mathlib.Nat.{le-of-eq}
 use denote.Ref.{now}

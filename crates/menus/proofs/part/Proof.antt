@@ -1,3 +1,6 @@
+-- `menus::part` meets its contract: whether the place is in the message decides, then whether a category octet stands there.
+-- Assumes nothing.
+use mathlib.Core.Logic.{⊎-elim}
 use mathlib.Core.Path.{sym, _∙_}
 use denote.Ref.{now}
 use Rattle.menus.proofs.Looking.{part-here, part-not, part-past}
@@ -28,10 +31,10 @@ part-result-end c = search needs
 
 returns : tie.Need-returns
 returns c =
-    let g = c .before in
-    let t = g .before .before in
-    let a = t .before .before .before .before .args in
-    part-here (now (a .octets)) (a .place) (search needs) (sym (t .is-category .ensures) ∙ g .before .if2 .taken) (g .group-end .result) (g .group-end .ensures .0)
+    let ended = c .before in
+    let asked = ended .before .before in
+    let args = asked .before .before .before .before .args in
+    part-here (now (args .octets)) (args .place) (search needs) (sym (asked .is-category .ensures) ∙ ended .before .if2 .taken) (ended .group-end .result) (ended .group-end .ensures .0)
 
 sub-result-2 : tie.Need-sub-result-2
 sub-result-2 c = search needs
@@ -44,23 +47,11 @@ part-result-end-2 c = search needs
 
 returns-2 : tie.Need-returns-2
 returns-2 c =
-    let t = c .before .before in
-    let a = t .before .before .before .before .args in
-    sym (part-not (now (a .octets)) (a .place) (search needs) (sym (t .is-category .ensures) ∙ c .before .if2 .left))
-
-sub-result-3 : tie.Need-sub-result-3
-sub-result-3 c = search needs
-
-part-result-start-3 : tie.Need-part-result-start-3
-part-result-start-3 c = search needs
-
-part-result-end-3 : tie.Need-part-result-end-3
-part-result-end-3 c = search needs
-
-returns-3 : tie.Need-returns-3
-returns-3 c =
-    let a = c .before .before .before .args in
-    sym (part-past (now (a .octets)) (a .place) (c .before .if1 .left))
+    let met = c .before in
+    let args = met .before .before .args in
+    ⊎-elim (λ no-category. sym (part-not (now (args .octets)) (args .place) (no-category .0 .taken) (sym (no-category .2 .ensures) ∙ no-category .3 .left)))
+    (λ past. sym (part-past (now (args .octets)) (args .place) (past .left)))
+    (met .if1 .came)
 
 pub part-spec : {M : Type 1} → statement M
 part-spec =
@@ -77,8 +68,4 @@ part-spec =
     sub-result-2
     part-result-start-2
     part-result-end-2
-    returns-2
-    sub-result-3
-    part-result-start-3
-    part-result-end-3
-    returns-3)
+    returns-2)

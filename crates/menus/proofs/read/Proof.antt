@@ -1,6 +1,8 @@
+-- `menus::read` meets its contract: the verdict of the test decides, and what is read is what the octets offer.
+-- Assumes nothing.
 use mathlib.Core.Path.{sym, ap, _∙_}
 use denote.Ref.{now}
-use Rattle.octets.specs.Refusals.{fault}
+use Rattle.refusals.specs.Refusals.{fault}
 use Rattle.menus.specs.Offer.{offers}
 use Rattle.menus.proofs.Reading.{menu-refused, menu-read}
 use borrow.Author.Needs.{needs}
@@ -21,13 +23,13 @@ read-offer-requires c κs = search needs
 
 returns : tie.Need-returns
 returns c =
-    let t = c .before .before .before in
-    menu-refused (now (t .before .before .args .octets)) (c .before .verdict .given .0 .0) (ap fault (sym (c .before .verdict .given .1)) ∙ t .test .ensures)
+    let tested = c .before .before .before in
+    menu-refused (now (tested .before .before .args .octets)) (c .before .verdict .given .0 .0) (ap fault (sym (c .before .verdict .given .1)) ∙ tested .test .ensures)
 
 returns-2 : tie.Need-returns-2
 returns-2 c =
-    let t = c .before .before .before in
-    ap offers (c .read-offer .ensures) ∙ sym (menu-read (now (t .before .before .args .octets)) (sym (t .test .ensures) ∙ ap fault (c .before .enum-told .given .1)))
+    let tested = c .before .before .before in
+    ap offers (c .read-offer .ensures) ∙ sym (menu-read (now (tested .before .before .args .octets)) (sym (tested .test .ensures) ∙ ap fault (c .before .enum-told .given .1)))
 
 pub read-spec : {M : Type 1} → statement M
 read-spec =

@@ -1,3 +1,5 @@
+-- `menus::read_offer` meets its contract: each field is what its callee promises of the group that was looked for.
+-- Assumes nothing.
 use borrow.Author.Needs.{needs}
 use Rattle.menus.proofs.read_offer.Statement.{statement}
 use Rattle.menus.proofs.read_offer.Tie as tie

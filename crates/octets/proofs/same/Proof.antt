@@ -1,3 +1,6 @@
+-- `octets::same` meets its contract. Invariant: the lists are as long as each other, and they are the same where what stands from place i on is the
+-- same.
+-- Assumes nothing.
 use borrow.Author.Needs.{needs}
 use Prim.Native.Nat.{_-_}
 use mathlib.Core.Path.{_≡_, refl, sym, _∙_}
@@ -14,50 +17,41 @@ Inv-loop a b i₀ i = (length a ≡ length b) × (sameList a b ≡ sameList (dro
 abbrev μ-loop : tie.MeasureT-loop
 μ-loop a b i₀ i = length a - i
 
--- src/lib.rt:180:9
 returns : tie.Need-returns Inv-loop μ-loop
 returns c = sym (same-lengths (now (c .before .args .a)) (now (c .before .args .b)) (c .if1 .taken))
 
--- src/lib.rt:183:5
 loop-holds : tie.Need-loop-holds Inv-loop μ-loop
 loop-holds c = (c .if1 .left, refl)
 
--- src/lib.rt:184:12
 shared-slice-read-if2 : tie.Need-shared-slice-read-if2 Inv-loop μ-loop
 shared-slice-read-if2 c = search needs
 
--- src/lib.rt:184:20
 shared-slice-read-if2-2 : tie.Need-shared-slice-read-if2-2 Inv-loop μ-loop
 shared-slice-read-if2-2 c = search needs
 
--- src/lib.rt:185:13
 returns-2 : tie.Need-returns-2 Inv-loop μ-loop
 returns-2 c =
-    let l = c .before .before .before .before in
-    let a = l .before .before .args in
-    sym (l .loop .inv .1 ∙ same-stop (now (a .a)) (now (a .b)) (l .loop .i) (search needs) (search needs) (c .if2 .taken))
+    let at-loop = c .before .before .before .before in
+    let args = at-loop .before .before .args in
+    sym (at-loop .loop .inv .1 ∙ same-stop (now (args .a)) (now (args .b)) (at-loop .loop .i) (search needs) (search needs) (c .if2 .taken))
 
--- src/lib.rt:187:9
 add-i : tie.Need-add-i Inv-loop μ-loop
 add-i c = search needs
 
--- src/lib.rt:183:5
 loop-less : tie.Need-loop-less Inv-loop μ-loop
 loop-less c = search needs
 
--- src/lib.rt:183:5
 loop-again : tie.Need-loop-again Inv-loop μ-loop
 loop-again c =
-    let l = c .before .before .before .before in
-    let a = l .before .before .args in
-    (l .loop .inv .0, l .loop .inv .1 ∙ same-on (now (a .a)) (now (a .b)) (l .loop .i) (search needs) (search needs) (c .if2 .left))
+    let at-loop = c .before .before .before .before in
+    let args = at-loop .before .before .args in
+    (at-loop .loop .inv .0, at-loop .loop .inv .1 ∙ same-on (now (args .a)) (now (args .b)) (at-loop .loop .i) (search needs) (search needs) (c .if2 .left))
 
--- src/lib.rt:176:1
 returns-3 : tie.Need-returns-3 Inv-loop μ-loop
 returns-3 c =
-    let l = c .before in
-    let a = l .before .before .args in
-    sym (l .loop .inv .1 ∙ same-end (now (a .a)) (now (a .b)) (l .loop .i) (c .loop-test .left) (search needs))
+    let at-loop = c .before in
+    let args = at-loop .before .before .args in
+    sym (at-loop .loop .inv .1 ∙ same-end (now (args .a)) (now (args .b)) (at-loop .loop .i) (c .loop-test .left) (search needs))
 
 pub same-spec : {M : Type 1} → statement M
 same-spec =

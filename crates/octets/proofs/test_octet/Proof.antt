@@ -1,4 +1,6 @@
-use Rattle.laws.specs.Choice.{choose}
+-- `octets::test_octet` meets its contract: a bad octet is refused, a category octet is tested by its tag, and any other is accepted.
+-- Assumes nothing.
+use Rattle.laws.specs.Logic.{when}
 use borrow.Author.Needs.{needs}
 use Rattle.octets.proofs.test_octet.Statement.{statement}
 use Rattle.octets.proofs.test_octet.Tie as tie
@@ -7,7 +9,7 @@ is-bad-requires : tie.Need-is-bad-requires
 is-bad-requires c κs = search needs
 
 returns : tie.Need-returns
-unfolding choose
+unfolding when
 returns c = simp (c .if1 .taken, ← c .before .is-bad .ensures)
 
 is-category-requires : tie.Need-is-category-requires
@@ -20,11 +22,11 @@ test-category-requires : tie.Need-test-category-requires
 test-category-requires c κs = search needs
 
 returns-2 : tie.Need-returns-2
-unfolding choose
+unfolding when
 returns-2 c = simp (c .test-category .ensures, c .before .tag-of .ensures, c .before .before .if2 .taken, ← c .before .before .before .is-category .ensures, c .before .before .before .before .if1 .left, ← c .before .before .before .before .before .is-bad .ensures)
 
 returns-3 : tie.Need-returns-3
-unfolding choose
+unfolding when
 returns-3 c = simp (c .if2 .left, ← c .before .is-category .ensures, c .before .before .if1 .left, ← c .before .before .before .is-bad .ensures)
 
 pub test-octet-spec : {M : Type 1} → statement M

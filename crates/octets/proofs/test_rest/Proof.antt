@@ -1,11 +1,14 @@
+-- `octets::test_rest` meets its contract. Invariant: nothing before place i is at fault, so the first fault behind the first octet is the first
+-- from i on.
+-- Assumes nothing.
 use borrow.Author.Needs.{needs}
 use Prim.Native.Nat.{_-_}
 use mathlib.Core.Path.{_≡_, refl, sym, ap, _∙_}
 use lib.ListN.{length, drop, getD}
 use denote.Ref.{now}
 use Rattle.octets.specs.Lists.{octetFault, firstFault}
-use Rattle.octets.specs.Refusals.{fault}
-use Rattle.octets.proofs.Numbers.{number-some}
+use Rattle.refusals.specs.Refusals.{fault}
+use Rattle.refusals.proofs.Numbers.{number-some}
 use Rattle.octets.proofs.Lists.{fault-here, fault-on, fault-end}
 use Rattle.octets.proofs.test_rest.Statement.{statement}
 use Rattle.octets.proofs.test_rest.Tie as tie
@@ -33,11 +36,11 @@ enum-told-2 c = search needs
 
 returns : tie.Need-returns Inv-loop μ-loop
 returns c =
-    let t = c .before .before in
-    let l = t .before .before .before in
-    let a = l .before .before .args in
-    let refused : octetFault (a .purpose) (getD (now (a .octets)) (l .loop .i) 0) ≡ 0 → ⊥ = λ e. number-some (c .enum-told2 .given .0 .0) (ap fault (sym (c .enum-told2 .given .1)) ∙ t .test-octet .ensures ∙ e) in
-    t .test-octet .ensures ∙ sym (l .loop .inv ∙ fault-here (a .purpose) (now (a .octets)) (l .loop .i) (search needs) refused)
+    let tested = c .before .before in
+    let at-loop = tested .before .before .before in
+    let args = at-loop .before .before .args in
+    let refused : octetFault (args .purpose) (getD (now (args .octets)) (at-loop .loop .i) 0) ≡ 0 → ⊥ = λ e. number-some (c .enum-told2 .given .0 .0) (ap fault (sym (c .enum-told2 .given .1)) ∙ tested .test-octet .ensures ∙ e) in
+    tested .test-octet .ensures ∙ sym (at-loop .loop .inv ∙ fault-here (args .purpose) (now (args .octets)) (at-loop .loop .i) (search needs) refused)
 
 add-i : tie.Need-add-i Inv-loop μ-loop
 add-i c = search needs
@@ -47,16 +50,16 @@ loop-less c = search needs
 
 loop-again : tie.Need-loop-again Inv-loop μ-loop
 loop-again c =
-    let t = c .before .before in
-    let l = t .before .before .before in
-    let a = l .before .before .args in
-    l .loop .inv ∙ fault-on (a .purpose) (now (a .octets)) (l .loop .i) (search needs) (sym (t .test-octet .ensures) ∙ ap fault (c .enum-told .given .1))
+    let tested = c .before .before in
+    let at-loop = tested .before .before .before in
+    let args = at-loop .before .before .args in
+    at-loop .loop .inv ∙ fault-on (args .purpose) (now (args .octets)) (at-loop .loop .i) (search needs) (sym (tested .test-octet .ensures) ∙ ap fault (c .enum-told .given .1))
 
 returns-2 : tie.Need-returns-2 Inv-loop μ-loop
 returns-2 c =
-    let l = c .before in
-    let a = l .before .before .args in
-    sym (l .loop .inv ∙ fault-end (a .purpose) (now (a .octets)) (l .loop .i) (search needs))
+    let at-loop = c .before in
+    let args = at-loop .before .before .args in
+    sym (at-loop .loop .inv ∙ fault-end (args .purpose) (now (args .octets)) (at-loop .loop .i) (search needs))
 
 pub test-rest-spec : {M : Type 1} → statement M
 test-rest-spec =

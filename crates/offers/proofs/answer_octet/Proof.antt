@@ -1,21 +1,27 @@
+-- `offers::answer_octet` meets its contract: our own CM for the home function is written and lent beside the heard one, and the one octet that is
+-- handed back says the function of the JM.
+-- Assumes nothing.
 use borrow.Author.Needs.{needs}
 use native.Mathlib.Omega.{arith}
-use Prim.Native.Nat.{ℕ, _≤_, _-_}
-use mathlib.Core.Path.{_≡_, sym, ap, _∙_}
+use Prim.Native.Nat.{ℕ, _-_}
+use mathlib.Core.Path.{_≡_, ap, _∙_}
 use mathlib.Core.List.{List, [], _∷_}
 use lib.Dec.{lit<}
-use lib.ListN.{length, take, getD, length-map}
+use lib.ListN.{take, getD}
 use lib.Seq.{take-at}
 use denote.Ref.{now}
+use Rattle.octets.specs.Octets.{callFunctionTag, categoryOctet}
 use Rattle.menus.specs.Offer.{offerOf}
 use Rattle.records.specs.declared.Modes.{Modes}
-use Rattle.records.proofs.Good.{good-home, available-within}
-use Rattle.drafts.specs.Drafts.{cmOfferOf, cmOffer, jmFunction}
-use Rattle.offers.specs.Making.{categoryOctet, menuOf, callFunction}
-use Rattle.offers.proofs.Making.{cm-says, menu-short}
+use Rattle.offers.specs.Offering.{cmOfferOf, cmOffer, jmOffer}
+use Rattle.offers.specs.Making.{menuOf, callFunction}
+use Rattle.offers.proofs.Making.{menu-short}
 use Rattle.offers.proofs.Answering.{call-octet}
 use Rattle.offers.proofs.answer_octet.Statement.{statement}
 use Rattle.offers.proofs.answer_octet.Tie as tie
+
+category-octet-requires : tie.Need-category-octet-requires
+category-octet-requires c κs = search needs
 
 in-use-requires : tie.Need-in-use-requires
 in-use-requires c κs = search needs
@@ -27,29 +33,15 @@ slice-aggregate-write-menu : tie.Need-slice-aggregate-write-menu
 slice-aggregate-write-menu c = search needs
 
 -- our own CM for the home function
-own-offer : (o : tie.After-cm-offer) → o .cm-offer .result ≡ cmOffer (o .before .before .before .args .own) (o .before .before .before .args .own .home)
-own-offer o =
-    let own = o .before .before .before .args .own in
-    o .cm-offer .ensures ∙ ap (λ (m : Modes). cmOfferOf own (own .home) m) (o .before .in-use .ensures)
-
-own-length : (o : tie.After-cm-offer) → length (menuOf (o .cm-offer .result)) ≤ 7
-own-length o = menu-short (o .cm-offer .result)
-
-category-octet-requires : tie.Need-category-octet-requires
-category-octet-requires c κs =
-    let s = c .before .before .before .before in
-    let own = s .args .own in
-    let six : length (own .functions) ≡ 6 = sym (length-map (own .functions) _) ∙ s .good .0 .1 .1 .0 .1 .0 .1 in
-    (omega arith, omega (arith, six, available-within (own .functions) (own .home) (good-home own (s .pre .0) .0)))
+own-offer : (made : tie.After-cm-offer) → made .cm-offer .result ≡ cmOffer (made .before .before .before .before .args .own) (made .before .before .before .before .args .own .home)
+own-offer made =
+    let own = made .before .before .before .before .args .own in
+    made .cm-offer .ensures ∙ ap (λ (m : Modes). cmOfferOf own (own .home) m) (made .before .in-use .ensures)
 
 write-menu-requires : tie.Need-write-menu-requires
 write-menu-requires c κs =
-    let o = c .before .before in
-    let s = o .before .before .before in
-    (rw (c .category-octet .ensures, own-offer o) (cm-says (s .args .own) (s .pre .0) (s .args .own .home)), own-length o)
-
-menu-size-requires : tie.Need-menu-size-requires
-menu-size-requires c κs = search needs
+    let made = c .before in
+    (rw (own-offer made) (made .before .before .category-octet .ensures), menu-short (made .cm-offer .result))
 
 sub-call-function : tie.Need-sub-call-function
 sub-call-function c = search needs
@@ -58,23 +50,26 @@ part-call-function-start : tie.Need-part-call-function-start
 part-call-function-start c = search needs
 
 part-call-function-end : tie.Need-part-call-function-end
-part-call-function-end c = omega (arith, c .before .menu-size .ensures, own-length (c .before .before .before .before .before .before))
+part-call-function-end c =
+    let wrote = c .before .before in
+    omega (arith, wrote .write-menu .ensures .count, menu-short (wrote .before .before .cm-offer .result))
 
 call-function-requires : tie.Need-call-function-requires
 call-function-requires c κs = search needs
 
 -- the part handed back is one octet, which says the function of the JM
-part-is : (f : tie.After-call-function) → now (f .call-function .result) ≡ categoryOctet 1 (jmFunction (f .before .before .before .before .before .before .before .before .before .before .before .args .own) (offerOf (now (f .before .before .before .before .before .before .before .before .before .before .before .args .heard)))) ∷ []
-part-is f =
-    let s = f .before .before .before .before .before .before .before .before .before .before .before in
-    let own = s .args .own in
-    let o = f .before .before .before .before .before .before .before .before in
-    let size = f .before .before .before .menu-size in
-    let menu = menuOf (o .cm-offer .result) in
-    let written : take (size .result - 0) (f .before .before .before .before .before .write-menu .last .0) ≡ menu = ap (λ (l : List ℕ). take (size .result - 0) l) (f .before .before .before .before .before .write-menu .ensures) ∙ take-at menu _ (size .result - 0) (omega (arith, size .ensures)) in
-    f .call-function .ensures
-    ∙ ap (λ (l : List ℕ). callFunction own (now (s .args .heard)) l) (written ∙ ap menuOf (own-offer o))
-    ∙ call-octet own (now (s .args .heard)) (s .pre .0) (s .pre .1) (f .before .before .before .before .before .before .before .before .before .before .shared-slice-known .given 0 .fits)
+part-is : (asked : tie.After-call-function) → now (asked .call-function .result) ≡ categoryOctet callFunctionTag (jmOffer (asked .before .before .before .before .before .before .before .before .before .before .args .own) (offerOf (now (asked .before .before .before .before .before .before .before .before .before .before .args .heard-cm))) .function) ∷ []
+part-is asked =
+    let wrote = asked .before .before .before .before in
+    let made = wrote .before .before in
+    let entry = made .before .before .before .before in
+    let own = entry .args .own in
+    let size = wrote .write-menu .result in
+    let menu = menuOf (made .cm-offer .result) in
+    let written : take (size - 0) (wrote .write-menu .last .0) ≡ menu = ap (λ (l : List ℕ). take (size - 0) l) (wrote .write-menu .ensures .buffer) ∙ take-at menu _ (size - 0) (omega (arith, wrote .write-menu .ensures .count)) in
+    asked .call-function .ensures
+    ∙ ap (λ (l : List ℕ). callFunction own (now (entry .args .heard-cm)) l) (written ∙ ap menuOf (own-offer made))
+    ∙ call-octet own (now (entry .args .heard-cm)) (entry .pre .0) (entry .pre .1) (made .before .before .before .shared-slice-known .given 0 .fits)
 
 shared-slice-read-result : tie.Need-shared-slice-read-result
 shared-slice-read-result c = rw (part-is (c .before)) (lit< tt)
@@ -86,12 +81,11 @@ pub answer-octet-spec : {M : Type 1} → statement M
 answer-octet-spec =
     tie.close
     (tie.spec
+    category-octet-requires
     in-use-requires
     cm-offer-requires
     slice-aggregate-write-menu
-    category-octet-requires
     write-menu-requires
-    menu-size-requires
     sub-call-function
     part-call-function-start
     part-call-function-end

@@ -1,3 +1,5 @@
+-- `offers::call_function` meets its contract: the source decides whose first octet is handed back.
+-- Assumes nothing.
 use borrow.Author.Needs.{needs}
 use Rattle.offers.proofs.call_function.Statement.{statement}
 use Rattle.offers.proofs.call_function.Tie as tie

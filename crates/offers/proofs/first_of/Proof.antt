@@ -1,3 +1,5 @@
+-- `offers::first_of` meets its contract: whether an octet stands there decides.
+-- Assumes nothing.
 use denote.Ref.{now}
 use Rattle.offers.proofs.Making.{no-first}
 use borrow.Author.Needs.{needs}

@@ -1,18 +1,17 @@
+-- `offers::make_cm` meets its contract: the record decides, then the function, then the room; the offer that is put is that of the modes in use.
+-- Assumes nothing.
 use borrow.Author.Needs.{needs}
-use native.Mathlib.Omega.{arith}
 use mathlib.Core.Bool.{false}
 use mathlib.Core.Path.{_≡_, sym, ap, subst, _∙_}
-use lib.ListN.{length, length-map}
 use denote.Ref.{now}
-use Rattle.octets.specs.Lent.{roomFault, put, Meets}
-use Rattle.octets.proofs.Outcomes.{meets-refused, meets-accepted}
+use Rattle.refusals.specs.Lent.{roomFault, put, Meets}
+use Rattle.refusals.proofs.Outcomes.{meets-refused, meets-accepted}
 use Rattle.menus.specs.declared.Offer.{Offer}
 use Rattle.records.specs.declared.Modes.{Modes}
 use Rattle.records.specs.Record.{badRecord}
-use Rattle.records.proofs.Good.{available-within}
-use Rattle.drafts.specs.Drafts.{cmOfferOf, cmOffer}
+use Rattle.offers.specs.Offering.{cmOfferOf, cmOffer}
 use Rattle.offers.specs.Making.{menuOf}
-use Rattle.offers.proofs.Making.{cm-says, bad-record, good-record, function-there, function-missing}
+use Rattle.offers.proofs.Making.{bad-record, good-record, function-there, function-missing}
 use Rattle.offers.proofs.make_cm.Statement.{statement}
 use Rattle.offers.proofs.make_cm.Tie as tie
 
@@ -21,54 +20,49 @@ bad-requires c κs = search needs
 
 returns : tie.Need-returns
 returns c =
-    let s = c .before .before .before in
-    meets-refused (menuOf (cmOffer (s .args .own) (s .args .function))) (now (s .args .out)) _ _ _ (bad-record (s .args .own) (sym (c .before .bad .ensures) ∙ c .if1 .taken))
+    let entry = c .before .before .before in
+    meets-refused (menuOf (cmOffer (entry .args .own) (entry .args .function))) (now (entry .args .out)) _ _ _ (bad-record (entry .args .own) (sym (c .before .bad .ensures) ∙ c .if1 .taken))
 
 in-use-requires : tie.Need-in-use-requires
 in-use-requires c κs = search needs
 
 category-octet-requires : tie.Need-category-octet-requires
-category-octet-requires c κs =
-    let s = c .before .before .before .before .before .before .before in
-    let six : length (s .args .own .functions) ≡ 6 = sym (length-map (s .args .own .functions) _) ∙ s .good .0 .1 .1 .0 .1 .0 .1 in
-    (omega arith, omega (arith, six, available-within (s .args .own .functions) (s .args .function) (ap (λ (m : Modes). m .available) (sym (c .before .before .before .in-use .ensures)) ∙ c .before .if2 .taken)))
+category-octet-requires c κs = search needs
 
 cm-offer-requires : tie.Need-cm-offer-requires
 cm-offer-requires c κs = search needs
 
 -- the record is not bad, and the offer is that of the function's modes in use
-good : (o : tie.After-cm-offer) → badRecord (o .before .before .before .before .before .before .before .before .before .args .own) ≡ false
-good o = sym (o .before .before .before .before .before .before .before .bad .ensures) ∙ o .before .before .before .before .before .before .if1 .left
+good : (offered : tie.After-cm-offer) → badRecord (offered .before .before .before .before .before .before .before .before .before .args .own) ≡ false
+good offered = sym (offered .before .before .before .before .before .before .before .bad .ensures) ∙ offered .before .before .before .before .before .before .if1 .left
 
-made : (o : tie.After-cm-offer) → o .cm-offer .result ≡ cmOffer (o .before .before .before .before .before .before .before .before .before .args .own) (o .before .before .before .before .before .before .before .before .before .args .function)
-made o =
-    let s = o .before .before .before .before .before .before .before .before .before in
-    o .cm-offer .ensures ∙ ap (λ (m : Modes). cmOfferOf (s .args .own) (s .args .function) m) (o .before .before .before .before .before .in-use .ensures)
+made : (offered : tie.After-cm-offer) → offered .cm-offer .result ≡ cmOffer (offered .before .before .before .before .before .before .before .before .before .args .own) (offered .before .before .before .before .before .before .before .before .before .args .function)
+made offered =
+    let entry = offered .before .before .before .before .before .before .before .before .before in
+    offered .cm-offer .ensures ∙ ap (λ (m : Modes). cmOfferOf (entry .args .own) (entry .args .function) m) (offered .before .before .before .before .before .in-use .ensures)
 
 put-menu-requires : tie.Need-put-menu-requires
-put-menu-requires c κs =
-    let s = c .before .before .before .before .before .before .before .before .before in
-    rw (c .before .category-octet .ensures, made c) (cm-says (s .args .own) (good c) (s .args .function))
+put-menu-requires c κs = rw (made c) (c .before .before .category-octet .ensures)
 
 same-length : tie.Need-same-length
 same-length c = search needs
 
 returns-2 : tie.Need-returns-2
 returns-2 c =
-    let o = c .before .before .before in
-    let s = o .before .before .before .before .before .before .before .before .before in
-    let menu = menuOf (cmOffer (s .args .own) (s .args .function)) in
-    let there = ap (λ (m : Modes). m .available) (sym (o .before .before .before .before .before .in-use .ensures)) ∙ o .before .before .before .if2 .taken in
-    meets-accepted menu (now (s .args .out)) _ _ _ _ (good-record (s .args .own) (good o))
-    (meets-accepted menu (now (s .args .out)) _ _ _ _ (function-there (s .args .own) (s .args .function) there)
-    (subst (λ (offer : Offer). Meets (put (roomFault (menuOf offer) (now (s .args .out))) (menuOf offer) (now (s .args .out))) (c .before .before .put-menu .result) (c .before .before .put-menu .last .0)) (made o) (c .before .before .put-menu .ensures)))
+    let offered = c .before .before .before in
+    let entry = offered .before .before .before .before .before .before .before .before .before in
+    let menu = menuOf (cmOffer (entry .args .own) (entry .args .function)) in
+    let there = ap (λ (m : Modes). m .available) (sym (offered .before .before .before .before .before .in-use .ensures)) ∙ offered .before .before .before .if2 .taken in
+    meets-accepted menu (now (entry .args .out)) _ _ _ _ (good-record (entry .args .own) (good offered))
+    (meets-accepted menu (now (entry .args .out)) _ _ _ _ (function-there (entry .args .own) (entry .args .function) there)
+    (subst (λ (offer : Offer). Meets (put (roomFault (menuOf offer) (now (entry .args .out))) (menuOf offer) (now (entry .args .out))) (c .before .before .put-menu .result) (c .before .before .put-menu .last .0)) (made offered) (c .before .before .put-menu .ensures)))
 
 returns-3 : tie.Need-returns-3
 returns-3 c =
-    let s = c .before .before .before .before .before .before in
-    let menu = menuOf (cmOffer (s .args .own) (s .args .function)) in
-    meets-accepted menu (now (s .args .out)) _ _ _ _ (good-record (s .args .own) (sym (c .before .before .before .before .bad .ensures) ∙ c .before .before .before .if1 .left))
-    (meets-refused menu (now (s .args .out)) _ _ _ (function-missing (s .args .own) (s .args .function) (λ e. c .if2 .left (ap (λ (m : Modes). m .available) (c .before .before .in-use .ensures) ∙ e))))
+    let entry = c .before .before .before .before .before .before in
+    let menu = menuOf (cmOffer (entry .args .own) (entry .args .function)) in
+    meets-accepted menu (now (entry .args .out)) _ _ _ _ (good-record (entry .args .own) (sym (c .before .before .before .before .bad .ensures) ∙ c .before .before .before .if1 .left))
+    (meets-refused menu (now (entry .args .out)) _ _ _ (function-missing (entry .args .own) (entry .args .function) (λ e. c .if2 .left (ap (λ (m : Modes). m .available) (c .before .before .in-use .ensures) ∙ e))))
 
 pub make-cm-spec : {M : Type 1} → statement M
 make-cm-spec =

@@ -1,3 +1,6 @@
+-- `offers::make_jm` meets its contract: the record decides, then the heard CM, then the room; the offer that is put is that of what was read and of
+-- the modes in use.
+-- Assumes nothing.
 use borrow.Author.Needs.{needs}
 use mathlib.Core.Bool.{false}
 use mathlib.Core.Path.{_≡_, sym, ap, subst, _∙_}
@@ -5,16 +8,16 @@ use borrow.Author.Tests.{eq-eqb}
 use denote.Ref.{now}
 use Rattle.octets.specs.declared.Purpose.the-variants.{Reading}
 use Rattle.octets.specs.Lists.{listFault}
-use Rattle.octets.specs.Lent.{roomFault, put, Meets}
-use Rattle.octets.proofs.Outcomes.{meets-refused, meets-accepted}
+use Rattle.refusals.specs.Lent.{roomFault, put, Meets}
+use Rattle.refusals.proofs.Outcomes.{meets-refused, meets-accepted}
 use Rattle.menus.specs.declared.Offer.{Offer}
 use Rattle.menus.specs.Offer.{offerOf, saysRead}
 use Rattle.menus.proofs.Reading.{read-refused, read-offered}
 use Rattle.records.specs.declared.Modes.{Modes}
 use Rattle.records.specs.Record.{badRecord}
-use Rattle.drafts.specs.Drafts.{jmOfferOf, jmOffer}
+use Rattle.offers.specs.Offering.{jmOfferOf, jmOffer}
 use Rattle.offers.specs.Making.{menuOf}
-use Rattle.offers.proofs.Making.{jm-says, bad-record, good-record}
+use Rattle.offers.proofs.Making.{bad-record, good-record}
 use Rattle.offers.proofs.make_jm.Statement.{statement}
 use Rattle.offers.proofs.make_jm.Tie as tie
 
@@ -23,8 +26,8 @@ bad-requires c κs = search needs
 
 returns : tie.Need-returns
 returns c =
-    let s = c .before .before .before .before in
-    meets-refused (menuOf (jmOffer (s .args .own) (offerOf (now (s .args .heard))))) (now (s .args .out)) _ _ _ (bad-record (s .args .own) (sym (c .before .bad .ensures) ∙ c .if1 .taken))
+    let entry = c .before .before .before .before in
+    meets-refused (menuOf (jmOffer (entry .args .own) (offerOf (now (entry .args .heard-cm))))) (now (entry .args .out)) _ _ _ (bad-record (entry .args .own) (sym (c .before .bad .ensures) ∙ c .if1 .taken))
 
 read-requires : tie.Need-read-requires
 read-requires c κs = search needs
@@ -39,50 +42,47 @@ in-use-requires : tie.Need-in-use-requires
 in-use-requires c κs = search needs
 
 -- the record is not bad, and the heard menu was read
-good : (u : tie.After-in-use) → badRecord (u .before .before .before .before .before .before .before .before .before .args .own) ≡ false
-good u = sym (u .before .before .before .before .before .before .bad .ensures) ∙ u .before .before .before .before .before .if1 .left
+good : (used : tie.After-in-use) → badRecord (used .before .before .before .before .before .before .before .before .before .args .own) ≡ false
+good used = sym (used .before .before .before .before .before .before .bad .ensures) ∙ used .before .before .before .before .before .if1 .left
 
-heard-read : (u : tie.After-in-use) → listFault Reading (now (u .before .before .before .before .before .before .before .before .before .args .heard)) ≡ 0
-heard-read u = read-offered (now (u .before .before .before .before .before .before .before .before .before .args .heard)) _ (ap saysRead (sym (u .before .before .menu2 .given .1)) ∙ u .before .before .before .before .read .ensures) .0
+theirs : (used : tie.After-in-use) → (listFault Reading (now (used .before .before .before .before .before .before .before .before .before .args .heard-cm)) ≡ 0) × (used .before .before .menu2 .given .0 .0 ≡ offerOf (now (used .before .before .before .before .before .before .before .before .before .args .heard-cm)))
+theirs used = read-offered (now (used .before .before .before .before .before .before .before .before .before .args .heard-cm)) _ (ap saysRead (sym (used .before .before .menu2 .given .1)) ∙ used .before .before .before .before .read .ensures)
 
 -- the offer is that of the heard menu and the modes in use for its function
-made : (o : tie.After-jm-offer) → o .jm-offer .result ≡ jmOffer (o .before .before .before .before .before .before .before .before .before .before .before .before .args .own) (offerOf (now (o .before .before .before .before .before .before .before .before .before .before .before .before .args .heard)))
-made o =
-    let s = o .before .before .before .before .before .before .before .before .before .before .before .before in
-    let u = o .before .before .before in
-    let theirs = read-offered (now (s .args .heard)) _ (ap saysRead (sym (u .before .before .menu2 .given .1)) ∙ u .before .before .before .before .read .ensures) .1 in
-    o .jm-offer .ensures ∙ ap (λ (m : Modes). jmOfferOf (s .args .own) (u .before .before .menu2 .given .0 .0) m) (u .in-use .ensures) ∙ ap (jmOffer (s .args .own)) theirs
+made : (offered : tie.After-jm-offer) → offered .jm-offer .result ≡ jmOffer (offered .before .before .before .before .before .before .before .before .before .before .before .before .args .own) (offerOf (now (offered .before .before .before .before .before .before .before .before .before .before .before .before .args .heard-cm)))
+made offered =
+    let used = offered .before .before .before in
+    let own = used .before .before .before .before .before .before .before .before .before .args .own in
+    offered .jm-offer .ensures ∙ ap (λ (m : Modes). jmOfferOf own (used .before .before .menu2 .given .0 .0) m) (used .in-use .ensures) ∙ ap (jmOffer own) (theirs used .1)
 
 answer-octet-requires : tie.Need-answer-octet-requires
-answer-octet-requires c κs = (good (c .before), eq-eqb _ 0 (heard-read (c .before)))
+answer-octet-requires c κs = (good c, eq-eqb _ 0 (theirs c .0))
 
 jm-offer-requires : tie.Need-jm-offer-requires
 jm-offer-requires c κs = search needs
 
 put-menu-requires : tie.Need-put-menu-requires
-put-menu-requires c κs =
-    let s = c .before .before .before .before .before .before .before .before .before .before .before .before in
-    rw (c .before .answer-octet .ensures, made c) (jm-says (s .args .own) (good (c .before .before .before)) (offerOf (now (s .args .heard))))
+put-menu-requires c κs = rw (made c) (c .before .before .answer-octet .ensures)
 
 returns-2 : tie.Need-returns-2
 returns-2 c =
-    let s = c .before .before .before .before .before .before .before .before in
-    let menu = menuOf (jmOffer (s .args .own) (offerOf (now (s .args .heard)))) in
-    meets-accepted menu (now (s .args .out)) _ _ _ _ (good-record (s .args .own) (sym (c .before .before .before .before .before .bad .ensures) ∙ c .before .before .before .before .if1 .left))
-    (meets-refused menu (now (s .args .out)) _ _ _ (read-refused (now (s .args .heard)) (c .before .menu .given .0 .0) (ap saysRead (sym (c .before .menu .given .1)) ∙ c .before .before .before .read .ensures)))
+    let entry = c .before .before .before .before .before .before .before .before in
+    let menu = menuOf (jmOffer (entry .args .own) (offerOf (now (entry .args .heard-cm)))) in
+    meets-accepted menu (now (entry .args .out)) _ _ _ _ (good-record (entry .args .own) (sym (c .before .before .before .before .before .bad .ensures) ∙ c .before .before .before .before .if1 .left))
+    (meets-refused menu (now (entry .args .out)) _ _ _ (read-refused (now (entry .args .heard-cm)) (c .before .menu .given .0 .0) (ap saysRead (sym (c .before .menu .given .1)) ∙ c .before .before .before .read .ensures)))
 
 same-length : tie.Need-same-length
 same-length c = search needs
 
 returns-3 : tie.Need-returns-3
 returns-3 c =
-    let o = c .before .before .before in
-    let u = o .before .before .before in
-    let s = o .before .before .before .before .before .before .before .before .before .before .before .before in
-    let menu = menuOf (jmOffer (s .args .own) (offerOf (now (s .args .heard)))) in
-    meets-accepted menu (now (s .args .out)) _ _ _ _ (good-record (s .args .own) (good u))
-    (meets-accepted menu (now (s .args .out)) _ _ _ _ (heard-read u)
-    (subst (λ (offer : Offer). Meets (put (roomFault (menuOf offer) (now (s .args .out))) (menuOf offer) (now (s .args .out))) (c .before .before .put-menu .result) (c .before .before .put-menu .last .0)) (made o) (c .before .before .put-menu .ensures)))
+    let offered = c .before .before .before in
+    let used = offered .before .before .before in
+    let entry = offered .before .before .before .before .before .before .before .before .before .before .before .before in
+    let menu = menuOf (jmOffer (entry .args .own) (offerOf (now (entry .args .heard-cm)))) in
+    meets-accepted menu (now (entry .args .out)) _ _ _ _ (good-record (entry .args .own) (good used))
+    (meets-accepted menu (now (entry .args .out)) _ _ _ _ (theirs used .0)
+    (subst (λ (offer : Offer). Meets (put (roomFault (menuOf offer) (now (entry .args .out))) (menuOf offer) (now (entry .args .out))) (c .before .before .put-menu .result) (c .before .before .put-menu .last .0)) (made offered) (c .before .before .put-menu .ensures)))
 
 pub make-jm-spec : {M : Type 1} → statement M
 make-jm-spec =

@@ -1,3 +1,6 @@
+-- `offers::menu_size` meets its contract: the call function and the modulation group have four octets, and each other group has one where it is
+-- there.
+-- Assumes nothing.
 use borrow.Author.Needs.{needs}
 use native.Mathlib.Omega.{arith}
 use Rattle.offers.proofs.Making.{menu-length}

@@ -1,3 +1,6 @@
+-- `offers::write_menu` meets its contract. Invariant: the first k groups stand at the front of what was lent, `at` is how many octets they have,
+-- and the bytes behind them are as they were.
+-- Assumes nothing.
 use borrow.Author.Needs.{needs}
 use native.Mathlib.Omega.{arith}
 use Prim.Native.Nat.{ℕ, _≤_, _-_, _+_}
@@ -6,9 +9,10 @@ use mathlib.Core.List.{List, []}
 use lib.ListN.{length, take, getD}
 use denote.Ref.{now}
 use Rattle.laws.specs.Front.{front}
+use Rattle.laws.specs.Joined.{joined}
 use Rattle.laws.proofs.Rest.{front-length, lent-length, front-then}
-use Rattle.offers.specs.Making.{groupsOf, joined}
-use Rattle.offers.proofs.Making.{joined-more, joined-more-length, joined-within}
+use Rattle.laws.proofs.Joined.{joined-more, joined-more-length, joined-within}
+use Rattle.offers.specs.Making.{groupsOf}
 use Rattle.offers.proofs.write_menu.Statement.{statement}
 use Rattle.offers.proofs.write_menu.Tie as tie
 
@@ -19,22 +23,22 @@ abbrev μ-loop : tie.MeasureT-loop
 μ-loop out₀ call offer at₀ k₀ out at k = 5 - k
 
 -- the groups so far fit, and the buffer is as long as it was lent
-within : (l : tie.At-loop Inv-loop μ-loop) → l .loop .at ≤ length (now (l .before .before .args .out))
-within l =
-    let s = l .before .before in
-    omega (arith, l .loop .inv .1, s .pre .1, joined-within (groupsOf (s .args .offer)) (l .loop .k))
+within : (at-loop : tie.At-loop Inv-loop μ-loop) → at-loop .loop .at ≤ length (now (at-loop .before .before .args .out))
+within at-loop =
+    let entry = at-loop .before .before in
+    omega (arith, at-loop .loop .inv .1, entry .pre .1, joined-within (groupsOf (entry .args .offer)) (at-loop .loop .k))
 
-long : (l : tie.At-loop Inv-loop μ-loop) → length (l .loop .out) ≡ length (now (l .before .before .args .out))
-long l =
-    let s = l .before .before in
-    ap length (l .loop .inv .2) ∙ front-length (joined (take (l .loop .k) (groupsOf (s .args .offer)))) (now (s .args .out)) (omega (arith, within l, l .loop .inv .1))
+long : (at-loop : tie.At-loop Inv-loop μ-loop) → length (at-loop .loop .out) ≡ length (now (at-loop .before .before .args .out))
+long at-loop =
+    let entry = at-loop .before .before in
+    ap length (at-loop .loop .inv .2) ∙ front-length (joined (take (at-loop .loop .k) (groupsOf (entry .args .offer)))) (now (entry .args .out)) (omega (arith, within at-loop, at-loop .loop .inv .1))
 
 -- and so does one more
-room : (l : tie.At-loop Inv-loop μ-loop) → l .loop .at + length (getD (groupsOf (l .before .before .args .offer)) (l .loop .k) []) ≤ length (now (l .before .before .args .out))
-room l =
-    let s = l .before .before in
-    let groups = groupsOf (s .args .offer) in
-    omega (arith, l .loop .inv .1, s .pre .1, joined-more-length groups (l .loop .k), joined-within groups (l .loop .k + 1))
+room : (at-loop : tie.At-loop Inv-loop μ-loop) → at-loop .loop .at + length (getD (groupsOf (at-loop .before .before .args .offer)) (at-loop .loop .k) []) ≤ length (now (at-loop .before .before .args .out))
+room at-loop =
+    let entry = at-loop .before .before in
+    let groups = groupsOf (entry .args .offer) in
+    omega (arith, at-loop .loop .inv .1, entry .pre .1, joined-more-length groups (at-loop .loop .k), joined-within groups (at-loop .loop .k + 1))
 
 loop-holds : tie.Need-loop-holds Inv-loop μ-loop
 unfolding joined
@@ -51,15 +55,15 @@ part-write-group-end c = search needs
 
 write-group-requires : tie.Need-write-group-requires Inv-loop μ-loop
 write-group-requires c κs =
-    let l = c .before .before in
-    let s = l .before .before in
-    let left = lent-length (joined (take (l .loop .k) (groupsOf (s .args .offer)))) (now (s .args .out)) (l .loop .out) (l .loop .at) (l .loop .inv .1) (within l) (l .loop .inv .2) in
-    (s .pre .0, search needs, omega (arith, room l, left))
+    let at-loop = c .before .before in
+    let entry = at-loop .before .before in
+    let left = lent-length (joined (take (at-loop .loop .k) (groupsOf (entry .args .offer)))) (now (entry .args .out)) (at-loop .loop .out) (at-loop .loop .at) (at-loop .loop .inv .1) (within at-loop) (at-loop .loop .inv .2) in
+    (entry .pre .0, (search needs, omega (arith, room at-loop, left)))
 
 add-at : tie.Need-add-at Inv-loop μ-loop
 add-at c =
-    let l = c .before .before .before .before .before in
-    omega (arith, room l, c .before .before .write-group .ensures .count, l .before .before .good)
+    let at-loop = c .before .before .before .before .before in
+    omega (arith, room at-loop, c .before .before .write-group .ensures .count, at-loop .before .before .good)
 
 add-k : tie.Need-add-k Inv-loop μ-loop
 add-k c = search needs
@@ -69,14 +73,14 @@ loop-less c = search needs
 
 loop-again : tie.Need-loop-again Inv-loop μ-loop
 loop-again c =
-    let w = c .before .before in
-    let l = w .before .before .before in
-    let s = l .before .before in
-    let groups = groupsOf (s .args .offer) in (
+    let wrote = c .before .before in
+    let at-loop = wrote .before .before .before in
+    let entry = at-loop .before .before in
+    let groups = groupsOf (entry .args .offer) in (
       search needs,
-      omega (arith, l .loop .inv .1, w .write-group .ensures .count, joined-more-length groups (l .loop .k)),
-      front-then (joined (take (l .loop .k) groups)) (now (s .args .out)) (l .loop .out) (l .loop .at) (l .loop .inv .1) (within l) (l .loop .inv .2) (getD groups (l .loop .k) []) (w .write-group .last .0) (w .write-group .ensures .buffer)
-          ∙ ap (λ (g : List ℕ). front g (now (s .args .out))) (sym (joined-more groups (l .loop .k))),
+      omega (arith, at-loop .loop .inv .1, wrote .write-group .ensures .count, joined-more-length groups (at-loop .loop .k)),
+      front-then (joined (take (at-loop .loop .k) groups)) (now (entry .args .out)) (at-loop .loop .out) (at-loop .loop .at) (at-loop .loop .inv .1) (within at-loop) (at-loop .loop .inv .2) (getD groups (at-loop .loop .k) []) (wrote .write-group .last .0) (wrote .write-group .ensures .buffer)
+          ∙ ap (λ (g : List ℕ). front g (now (entry .args .out))) (sym (joined-more groups (at-loop .loop .k))),
     )
 
 same-length : tie.Need-same-length Inv-loop μ-loop
@@ -84,10 +88,14 @@ same-length c = long (c .before)
 
 returns : tie.Need-returns Inv-loop μ-loop
 returns c =
-    let l = c .before in
-    let s = l .before .before in
-    let all : l .loop .k ≡ 5 = omega (arith, l .loop .inv .0, c .loop-test .left) in
-    l .loop .inv .2 ∙ ap (λ (k : ℕ). front (joined (take k (groupsOf (s .args .offer)))) (now (s .args .out))) all
+    let at-loop = c .before in
+    let entry = at-loop .before .before in
+    let groups = groupsOf (entry .args .offer) in
+    let all : at-loop .loop .k ≡ 5 = omega (arith, at-loop .loop .inv .0, c .loop-test .left) in
+    record {
+      count = at-loop .loop .inv .1 ∙ ap (λ (k : ℕ). length (joined (take k groups))) all;
+      buffer = at-loop .loop .inv .2 ∙ ap (λ (k : ℕ). front (joined (take k groups)) (now (entry .args .out))) all;
+    }
 
 pub write-menu-spec : {M : Type 1} → statement M
 write-menu-spec =

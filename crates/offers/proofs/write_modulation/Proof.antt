@@ -1,3 +1,5 @@
+-- `offers::write_modulation` meets its contract: three bytes that are set one behind the other are the group at the front.
+-- Assumes nothing.
 use borrow.Author.Needs.{needs}
 use native.Mathlib.Omega.{arith}
 use mathlib.Core.Path.{refl, _∙_}
@@ -33,11 +35,11 @@ same-length c = search needs
 returns : tie.Need-returns
 unfolding modulationGroup
 returns c =
-    let s = c .before .before .before .before in
+    let entry = c .before .before .before .before in
     record {
       count = refl;
       buffer =
-          sets-eq (c .before .before .modulation-octet .result ∷ c .before .modulation-octet2 .result ∷ c .modulation-octet3 .result ∷ []) (now (s .args .out)) 0 (s .pre)
+          sets-eq (c .before .before .modulation-octet .result ∷ c .before .modulation-octet2 .result ∷ c .modulation-octet3 .result ∷ []) (now (entry .args .out)) 0 (entry .pre)
           ∙ simp (c .before .before .modulation-octet .ensures, c .before .modulation-octet2 .ensures, c .modulation-octet3 .ensures);
     }
 

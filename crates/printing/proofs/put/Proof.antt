@@ -1,5 +1,7 @@
+-- `printing::put` meets its contract: whether the place is within the buffer decides, as it does in `struck`.
+-- Assumes nothing.
 use borrow.Author.Needs.{needs}
-use Rattle.laws.specs.Choice.{choose}
+use Rattle.laws.specs.Logic.{when}
 use Rattle.laws.proofs.Cases.{cases}
 use Rattle.printing.proofs.put.Statement.{statement}
 use Rattle.printing.proofs.put.Tie as tie
@@ -14,11 +16,11 @@ same-length : tie.Need-same-length
 same-length c = search needs
 
 returns : tie.Need-returns
-unfolding choose
+unfolding when
 returns c = search cases
 
 returns-2 : tie.Need-returns-2
-unfolding choose
+unfolding when
 returns-2 c = search cases
 
 pub put-spec : {M : Type 1} → statement M

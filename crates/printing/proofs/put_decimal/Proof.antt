@@ -1,3 +1,6 @@
+-- `printing::put_decimal` meets its contract: the digits are those that `io::decimal` promises, as few as hold the number, and they
+-- are typed as a text.
+-- Assumes nothing.
 use borrow.Author.Needs.{needs}
 use mathlib.Core.Path.{ap, _∙_}
 use denote.Ref.{now}

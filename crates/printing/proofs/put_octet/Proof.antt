@@ -1,3 +1,5 @@
+-- `printing::put_octet` meets its contract: two bytes put, one behind the other, are the text of both digits typed.
+-- Assumes nothing.
 use borrow.Author.Needs.{needs}
 use mathlib.Core.Path.{ap, ap₂, _∙_}
 use denote.Ref.{now}

@@ -1,3 +1,5 @@
+-- `printing::put_text` meets its contract. Invariant: what is left of the text, typed from here, leaves what the whole text does.
+-- Assumes nothing.
 use borrow.Author.Needs.{needs}
 use Prim.Native.Nat.{_≤_, _+_, _-_}
 use mathlib.Core.Path.{_≡_, refl, sym, ap, _∙_}
@@ -8,7 +10,6 @@ use Rattle.printing.proofs.Pages.{typed-on, typed-end}
 use Rattle.printing.proofs.put_text.Statement.{statement}
 use Rattle.printing.proofs.put_text.Tie as tie
 
--- what is left of the text, typed from here, leaves what the whole does
 abbrev Inv-loop : tie.InvT-loop
 Inv-loop out₀ at text n₀ i₀ out n i = (typed (page out n) (drop i text) ≡ typed (page out₀ at) text) × (i ≤ length text) × (length out ≡ length out₀)
 
@@ -32,18 +33,18 @@ loop-less c = search needs
 
 loop-again : tie.Need-loop-again Inv-loop μ-loop
 loop-again c =
-    let l = c .before .before .before .before .before .before in
-    let text = now (l .before .before .before .args .text) in
-    let here = typed-on (page (l .loop .out) (l .loop .n)) text (l .loop .i) (search needs) in
-    (ap (λ (p : Page). typed p (drop (l .loop .i + 1) text)) (c .before .before .put .ensures) ∙ sym here ∙ l .loop .inv .0, search needs, search needs)
+    let at-loop = c .before .before .before .before .before .before in
+    let text = now (at-loop .before .before .before .args .text) in
+    let one-typed = typed-on (page (at-loop .loop .out) (at-loop .loop .n)) text (at-loop .loop .i) (search needs) in
+    (ap (λ (p : Page). typed p (drop (at-loop .loop .i + 1) text)) (c .before .before .put .ensures) ∙ sym one-typed ∙ at-loop .loop .inv .0, search needs, search needs)
 
 same-length : tie.Need-same-length Inv-loop μ-loop
 same-length c = search needs
 
 returns : tie.Need-returns Inv-loop μ-loop
 returns c =
-    let l = c .before in
-    sym (typed-end (page (l .loop .out) (l .loop .n)) (now (l .before .before .before .args .text)) (l .loop .i) (search needs)) ∙ l .loop .inv .0
+    let at-loop = c .before in
+    sym (typed-end (page (at-loop .loop .out) (at-loop .loop .n)) (now (at-loop .before .before .before .args .text)) (at-loop .loop .i) (search needs)) ∙ at-loop .loop .inv .0
 
 pub put-text-spec : {M : Type 1} → statement M
 put-text-spec =

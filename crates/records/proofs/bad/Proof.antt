@@ -1,6 +1,10 @@
+-- `records::bad` meets its contract: the home function decides, then the flags, then the functions. Invariant: no function before place i is bad,
+-- so one is bad where one from i on is.
+-- Assumes nothing.
 use borrow.Author.Needs.{needs}
 use native.Mathlib.Omega.{arith}
 use Prim.Native.Nat.{_≤_, _-_}
+use mathlib.Core.Logic.{⊎-elim}
 use mathlib.Core.Path.{_≡_, _∙_, sym, refl}
 use lib.ListN.{length, length-map, drop, drop-of-length-le}
 use Rattle.records.specs.Record.{anyBad, badRecord}
@@ -21,10 +25,16 @@ bad-flags-requires : tie.Need-bad-flags-requires Inv-loop μ-loop
 bad-flags-requires c κs = search needs
 
 returns : tie.Need-returns Inv-loop μ-loop
-returns c = sym (flags-bad _ _ (c .before .before .before .before .in-use .ensures) (c .before .before .if1 .taken) (sym (c .before .bad-flags .ensures) ∙ c .if2 .taken))
+returns c =
+    let home = c .before in
+    ⊎-elim (λ missing. sym (home-missing _ _ (home .before .in-use .ensures) (missing .taken)))
+    (λ flags. sym (flags-bad _ _ (home .before .in-use .ensures) (flags .0 .left) (sym (flags .1 .ensures) ∙ flags .2 .taken)))
+    (c .if1 .came)
 
 loop-holds : tie.Need-loop-holds Inv-loop μ-loop
-loop-holds c = (search needs, sym (length-map (c .before .before .before .before .before .before .args .own .functions) _) ∙ c .before .before .before .before .before .before .good .0 .1 .1 .0 .1 .0 .1, refl)
+loop-holds c =
+    let entry = c .before .before .before .before .before .before in
+    (search needs, sym (length-map (entry .args .own .functions) _) ∙ entry .good .0 .1 .1 .0 .1 .0 .1, refl)
 
 mul-bad-modes : tie.Need-mul-bad-modes Inv-loop μ-loop
 mul-bad-modes c = search needs
@@ -36,14 +46,16 @@ bad-modes-requires : tie.Need-bad-modes-requires Inv-loop μ-loop
 bad-modes-requires c κs = search needs
 
 -- what is left to the functions, behind the other tests
-left : (l : tie.At-loop Inv-loop μ-loop) → badRecord (l .before .before .before .before .before .before .before .args .own) ≡ anyBad (l .before .before .before .before .before .before .before .args .own .functions)
-left l = functions-left _ _ (l .before .before .before .before .before .before .in-use .ensures) (l .before .before .before .before .if1 .taken) (sym (l .before .before .before .bad-flags .ensures) ∙ l .before .before .if2 .left)
+left : (at-loop : tie.At-loop Inv-loop μ-loop) → badRecord (at-loop .before .before .before .before .before .before .before .args .own) ≡ anyBad (at-loop .before .before .before .before .before .before .before .args .own .functions)
+left at-loop =
+    let tested = at-loop .before .before .before in
+    functions-left _ _ (tested .before .before .before .in-use .ensures) (tested .before .if1 .left) (sym (tested .bad-flags .ensures) ∙ at-loop .before .before .if2 .left)
 
 returns-2 : tie.Need-returns-2 Inv-loop μ-loop
 returns-2 c =
-    let l = c .before .before .before .before in
-    let functions = l .before .before .before .before .before .before .before .args .own .functions in
-    sym (left l ∙ l .loop .inv .2 ∙ bad-here functions (l .loop .i) _ (omega (arith, l .loop .inv .1)) (sym (c .before .bad-modes .ensures) ∙ c .if3 .taken))
+    let at-loop = c .before .before .before .before in
+    let functions = at-loop .before .before .before .before .before .before .before .args .own .functions in
+    sym (left at-loop ∙ at-loop .loop .inv .2 ∙ bad-here functions (at-loop .loop .i) _ (omega (arith, at-loop .loop .inv .1)) (sym (c .before .bad-modes .ensures) ∙ c .if3 .taken))
 
 add-i : tie.Need-add-i Inv-loop μ-loop
 add-i c = search needs
@@ -53,19 +65,16 @@ loop-less c = search needs
 
 loop-again : tie.Need-loop-again Inv-loop μ-loop
 loop-again c =
-    let l = c .before .before .before .before in
-    let functions = l .before .before .before .before .before .before .before .args .own .functions in
-    (search needs, l .loop .inv .1, l .loop .inv .2 ∙ bad-on functions (l .loop .i) _ (omega (arith, l .loop .inv .1)) (sym (c .before .bad-modes .ensures) ∙ c .if3 .left))
+    let at-loop = c .before .before .before .before in
+    let functions = at-loop .before .before .before .before .before .before .before .args .own .functions in
+    (search needs, at-loop .loop .inv .1, at-loop .loop .inv .2 ∙ bad-on functions (at-loop .loop .i) _ (omega (arith, at-loop .loop .inv .1)) (sym (c .before .bad-modes .ensures) ∙ c .if3 .left))
 
 returns-3 : tie.Need-returns-3 Inv-loop μ-loop
 unfolding anyBad
 returns-3 c =
-    let l = c .before in
-    let functions = l .before .before .before .before .before .before .before .args .own .functions in
-    sym (left l ∙ l .loop .inv .2 ∙ simp (drop-of-length-le functions {i = l .loop .i} (omega (arith, l .loop .inv .1))))
-
-returns-4 : tie.Need-returns-4 Inv-loop μ-loop
-returns-4 c = sym (home-missing _ _ (c .before .before .in-use .ensures) (c .if1 .left))
+    let at-loop = c .before in
+    let functions = at-loop .before .before .before .before .before .before .before .args .own .functions in
+    sym (left at-loop ∙ at-loop .loop .inv .2 ∙ simp (drop-of-length-le functions {i = at-loop .loop .i} (omega (arith, at-loop .loop .inv .1))))
 
 pub bad-spec : {M : Type 1} → statement M
 bad-spec =
@@ -84,5 +93,4 @@ bad-spec =
     add-i
     loop-less
     loop-again
-    returns-3
-    returns-4)
+    returns-3)

@@ -1,3 +1,5 @@
+-- `rehearse::run` is safe and ends. Invariant: the bit time is at most 9,000, so its milliseconds fit.
+-- Assumes nothing.
 use borrow.Author.Needs.{needs}
 use Prim.Native.Nat.{_≤_, _-_}
 use Rattle.rehearse.proofs.run.Statement.{statement}

@@ -1,3 +1,5 @@
+-- `sequences::four` meets its contract: the lent table is `spreads`, and n is a place in it.
+-- Assumes nothing.
 use Prim.Native.Nat.{ℕ}
 use mathlib.Core.Path.{ap}
 use mathlib.Core.List.{List}
@@ -13,7 +15,7 @@ element-copy-out-result : tie.Need-element-copy-out-result
 element-copy-out-result c = search needs
 
 returns : tie.Need-returns
-returns c = ap (λ (t : List ℕ). getD t (c .before .args .n) 0) (c .before .pre .1)
+returns c = ap (λ (table : List ℕ). getD table (c .before .args .n) 0) (c .before .pre .1)
 
 pub four-spec : {M : Type 1} → statement M
 four-spec = tie.close (tie.spec mul-result element-copy-out-result returns)

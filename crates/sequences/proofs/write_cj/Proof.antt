@@ -1,9 +1,12 @@
+-- `sequences::write_cj` meets its contract: a buffer of fewer than 30 bytes has no room for CJ, and in any other the octet 0, written
+-- three times as groups are, is CJ.
+-- Assumes nothing.
 use native.Mathlib.Omega.{arith}
 use mathlib.Core.Path.{sym}
 use denote.Ref.{now}
 use Rattle.sequences.specs.Line.{cj}
 use Rattle.sequences.proofs.Lines.{cj-length}
-use Rattle.octets.proofs.Outcomes.{meets-short, meets-put}
+use Rattle.refusals.proofs.Outcomes.{meets-short, meets-put}
 use borrow.Author.Needs.{needs}
 use Rattle.sequences.proofs.write_cj.Statement.{statement}
 use Rattle.sequences.proofs.write_cj.Tie as tie
@@ -24,8 +27,8 @@ same-length c = search needs
 returns-2 : tie.Need-returns-2
 unfolding cj
 returns-2 c =
-    let w = c .before .before in
-    meets-put cj (now (w .before .before .before .before .before .before .args .out)) 30 (w .write-groups .last .0) (omega (arith, cj-length)) (sym cj-length) (w .write-groups .ensures)
+    let written = c .before .before in
+    meets-put cj (now (written .before .before .before .before .before .before .args .out)) 30 (written .write-groups .last .0) (omega (arith, cj-length)) (sym cj-length) (written .write-groups .ensures)
 
 pub write-cj-spec : {M : Type 1} → statement M
 write-cj-spec =

@@ -1,3 +1,6 @@
+-- `sequences::write_copies` meets its contract. Invariant: `done` copies stand at the front of the buffer and end at `at`; there is room
+-- for one more, since n copies fit.
+-- Assumes nothing.
 use borrow.Author.Needs.{needs}
 use native.Mathlib.Omega.{arith}
 use Prim.Native.Nat.{ℕ, _≤_, _-_, _+_, _*_}
@@ -19,23 +22,23 @@ abbrev μ-loop : tie.MeasureT-loop
 μ-loop out₀ kind octets n spread size at₀ done₀ out at done = n - done
 
 -- the copies so far fit, and the buffer is as long as it was lent
-within : (l : tie.At-loop Inv-loop μ-loop) → l .loop .at ≤ length (now (l .before .before .before .args .out))
-within l =
-    let s = l .before .before .before in
-    omega (arith, l .loop .inv .1, s .pre .1, copies-within (l .loop .done) (s .args .n) (sequence (s .args .kind) (now (s .args .octets))) (l .loop .inv .0))
+within : (at-loop : tie.At-loop Inv-loop μ-loop) → at-loop .loop .at ≤ length (now (at-loop .before .before .before .args .out))
+within at-loop =
+    let start = at-loop .before .before .before in
+    omega (arith, at-loop .loop .inv .1, start .pre .1 .0, copies-within (at-loop .loop .done) (start .args .n) (sequence (start .args .kind) (now (start .args .octets))) (at-loop .loop .inv .0))
 
-long : (l : tie.At-loop Inv-loop μ-loop) → length (l .loop .out) ≡ length (now (l .before .before .before .args .out))
-long l =
-    let s = l .before .before .before in
-    ap length (l .loop .inv .2) ∙ front-length (copies (l .loop .done) (sequence (s .args .kind) (now (s .args .octets)))) (now (s .args .out)) (omega (arith, within l, l .loop .inv .1))
+long : (at-loop : tie.At-loop Inv-loop μ-loop) → length (at-loop .loop .out) ≡ length (now (at-loop .before .before .before .args .out))
+long at-loop =
+    let start = at-loop .before .before .before in
+    ap length (at-loop .loop .inv .2) ∙ front-length (copies (at-loop .loop .done) (sequence (start .args .kind) (now (start .args .octets)))) (now (start .args .out)) (omega (arith, within at-loop, at-loop .loop .inv .1))
 
 -- and so does one more
-room : (t : tie.In-loop Inv-loop μ-loop) → t .before .loop .at + (20 + 10 * length (now (t .before .before .before .before .args .octets))) ≤ length (now (t .before .before .before .before .args .out))
-room t =
-    let l = t .before in
-    let s = l .before .before .before in
-    let line = sequence (s .args .kind) (now (s .args .octets)) in
-    omega (arith, l .loop .inv .1, s .pre .1, copies-within (l .loop .done + 1) (s .args .n) line (omega (arith, t .loop-test .taken)), copies-more-length (l .loop .done) line, sequence-length (s .args .kind) (now (s .args .octets)))
+room : (in-loop : tie.In-loop Inv-loop μ-loop) → in-loop .before .loop .at + (20 + 10 * length (now (in-loop .before .before .before .before .args .octets))) ≤ length (now (in-loop .before .before .before .before .args .out))
+room in-loop =
+    let at-loop = in-loop .before in
+    let start = at-loop .before .before .before in
+    let line = sequence (start .args .kind) (now (start .args .octets)) in
+    omega (arith, at-loop .loop .inv .1, start .pre .1 .0, copies-within (at-loop .loop .done + 1) (start .args .n) line (omega (arith, in-loop .loop-test .taken)), copies-more-length (at-loop .loop .done) line, sequence-length (start .args .kind) (now (start .args .octets)))
 
 mul-size : tie.Need-mul-size Inv-loop μ-loop
 mul-size c = search needs
@@ -58,10 +61,10 @@ part-write-sequence-end c = search needs
 
 write-sequence-requires : tie.Need-write-sequence-requires Inv-loop μ-loop
 write-sequence-requires c κs =
-    let l = c .before .before in
-    let s = l .before .before .before in
-    let left = lent-length (copies (l .loop .done) (sequence (s .args .kind) (now (s .args .octets)))) (now (s .args .out)) (l .loop .out) (l .loop .at) (l .loop .inv .1) (within l) (l .loop .inv .2) in
-    (s .pre .0, omega (arith, room (c .before)), s .pre .2)
+    let at-loop = c .before .before in
+    let start = at-loop .before .before .before in
+    let left = lent-length (copies (at-loop .loop .done) (sequence (start .args .kind) (now (start .args .octets)))) (now (start .args .out)) (at-loop .loop .out) (at-loop .loop .at) (at-loop .loop .inv .1) (within at-loop) (at-loop .loop .inv .2) in
+    (start .pre .0, (omega (arith, room (c .before)), start .pre .1 .1))
 
 add-at : tie.Need-add-at Inv-loop μ-loop
 add-at c = omega (arith, room (c .before .before .before .before), c .before .before .before .before .before .before .before .before .good)
@@ -74,15 +77,15 @@ loop-less c = search needs
 
 loop-again : tie.Need-loop-again Inv-loop μ-loop
 loop-again c =
-    let w = c .before .before in
-    let t = w .before .before in
-    let l = t .before in
-    let s = l .before .before .before in
-    let line = sequence (s .args .kind) (now (s .args .octets)) in (
-      omega (arith, t .loop-test .taken),
-      omega (arith, l .loop .inv .1, copies-more-length (l .loop .done) line, sequence-length (s .args .kind) (now (s .args .octets))),
-      front-then (copies (l .loop .done) line) (now (s .args .out)) (l .loop .out) (l .loop .at) (l .loop .inv .1) (within l) (l .loop .inv .2) line (w .write-sequence .last .0) (w .write-sequence .ensures)
-          ∙ ap (λ (g : List ℕ). front g (now (s .args .out))) (sym (copies-more (l .loop .done) line)),
+    let written = c .before .before in
+    let in-loop = written .before .before in
+    let at-loop = in-loop .before in
+    let start = at-loop .before .before .before in
+    let line = sequence (start .args .kind) (now (start .args .octets)) in (
+      omega (arith, in-loop .loop-test .taken),
+      omega (arith, at-loop .loop .inv .1, copies-more-length (at-loop .loop .done) line, sequence-length (start .args .kind) (now (start .args .octets))),
+      front-then (copies (at-loop .loop .done) line) (now (start .args .out)) (at-loop .loop .out) (at-loop .loop .at) (at-loop .loop .inv .1) (within at-loop) (at-loop .loop .inv .2) line (written .write-sequence .last .0) (written .write-sequence .ensures)
+          ∙ ap (λ (bits : List ℕ). front bits (now (start .args .out))) (sym (copies-more (at-loop .loop .done) line)),
     )
 
 same-length : tie.Need-same-length Inv-loop μ-loop
@@ -90,10 +93,10 @@ same-length c = long (c .before)
 
 returns : tie.Need-returns Inv-loop μ-loop
 returns c =
-    let l = c .before in
-    let s = l .before .before .before in
-    let all : l .loop .done ≡ s .args .n = omega (arith, l .loop .inv .0, c .loop-test .left) in
-    l .loop .inv .2 ∙ ap (λ (k : ℕ). front (copies k (sequence (s .args .kind) (now (s .args .octets)))) (now (s .args .out))) all
+    let at-loop = c .before in
+    let start = at-loop .before .before .before in
+    let all : at-loop .loop .done ≡ start .args .n = omega (arith, at-loop .loop .inv .0, c .loop-test .left) in
+    at-loop .loop .inv .2 ∙ ap (λ (count : ℕ). front (copies count (sequence (start .args .kind) (now (start .args .octets)))) (now (start .args .out))) all
 
 pub write-copies-spec : {M : Type 1} → statement M
 write-copies-spec =

@@ -1,3 +1,6 @@
+-- `sequences::write_group` meets its contract. Invariant: the first i octets stand framed at the front of the buffer, there is an octet
+-- at place i, and from there on the group has as many extension octets left as it has in all, less i.
+-- Assumes nothing.
 use borrow.Author.Needs.{needs}
 use native.Mathlib.Omega.{arith}
 use Prim.Native.Nat.{_<_, _-_, _+_, _*_}
@@ -7,7 +10,7 @@ use denote.Ref.{now}
 use borrow.Rule.Slice.PartMut.{putMid}
 use Prim.Native.Nat.{ℕ}
 use mathlib.Core.List.{List}
-use Rattle.sequences.specs.Tens.{tenBits}
+use Rattle.sequences.specs.Inner.{tenBits}
 use Rattle.laws.specs.Front.{front}
 use Rattle.octets.specs.Lists.{untilCategory}
 use Rattle.octets.proofs.Lists.{group-end, group-on}
@@ -23,28 +26,30 @@ abbrev μ-loop : tie.MeasureT-loop
 μ-loop out₀ octets spread i₀ out i = length octets - i
 
 -- the buffer is as long as it was lent, and what is left of it holds the octets that are left
-long : (l : tie.At-loop Inv-loop μ-loop) → length (l .loop .out) ≡ length (now (l .before .before .before .args .out))
-long l =
-    let s = l .before .before .before in
-    out-length (now (s .args .octets)) (now (s .args .out)) (l .loop .out) (l .loop .i) (s .pre .2) (omega arith) (l .loop .inv .1)
+long : (at-loop : tie.At-loop Inv-loop μ-loop) → length (at-loop .loop .out) ≡ length (now (at-loop .before .before .before .args .out))
+long at-loop =
+    let start = at-loop .before .before .before in
+    out-length (now (start .args .octets)) (now (start .args .out)) (at-loop .loop .out) (at-loop .loop .i) (start .pre .1 .1 .0) (omega arith) (at-loop .loop .inv .1)
 
-left : (l : tie.At-loop Inv-loop μ-loop) → length (take (length (l .loop .out) - 10 * l .loop .i) (drop (10 * l .loop .i) (l .loop .out))) ≡ length (now (l .before .before .before .args .out)) - 10 * l .loop .i
-left l =
-    let s = l .before .before .before in
-    rest-length (now (s .args .octets)) (now (s .args .out)) (l .loop .out) (l .loop .i) (s .pre .2) (omega arith) (l .loop .inv .1)
+left : (at-loop : tie.At-loop Inv-loop μ-loop)
+    → length (take (length (at-loop .loop .out) - 10 * at-loop .loop .i) (drop (10 * at-loop .loop .i) (at-loop .loop .out))) ≡ length (now (at-loop .before .before .before .args .out)) - 10 * at-loop .loop .i
+left at-loop =
+    let start = at-loop .before .before .before in
+    rest-length (now (start .args .octets)) (now (start .args .out)) (at-loop .loop .out) (at-loop .loop .i) (start .pre .1 .1 .0) (omega arith) (at-loop .loop .inv .1)
 
 -- one more octet
-more : (w : tie.After-write-ten Inv-loop μ-loop)
-    → putMid (10 * w .before .before .before .before .loop .i) (length (w .before .before .before .before .loop .out) - 10 * w .before .before .before .before .loop .i) (w .before .before .before .before .loop .out) (w .write-ten .last .0)
-    ≡ front (framedAll (take (w .before .before .before .before .loop .i + 1) (now (w .before .before .before .before .before .before .before .args .octets)))) (now (w .before .before .before .before .before .before .before .args .out))
-more w =
-    let l = w .before .before .before .before in
-    let s = l .before .before .before in
-    let o = now (s .args .octets) in
-    let x = now (s .args .out) in
-    let v : tenBits (w .before .octet-ten .result) ≡ framedAll (take 1 (drop (l .loop .i) o)) = ap tenBits (w .before .octet-ten .ensures) ∙ framed-one o (l .loop .i) (l .loop .inv .0) (w .before .before .shared-slice-known2 .given (l .loop .i) .fits) in
-    framed-more o x (l .loop .out) (l .loop .i) (s .pre .2) (omega arith) (l .loop .inv .1) 1 (w .write-ten .last .0)
-    (w .write-ten .ensures ∙ ap (λ (g : List ℕ). front g (take (length (l .loop .out) - 10 * l .loop .i) (drop (10 * l .loop .i) (l .loop .out)))) v)
+more : (written : tie.After-write-ten Inv-loop μ-loop)
+    → putMid (10 * written .before .before .before .before .loop .i) (length (written .before .before .before .before .loop .out) - 10 * written .before .before .before .before .loop .i) (written .before .before .before .before .loop .out) (written .write-ten .last .0)
+    ≡ front (framedAll (take (written .before .before .before .before .loop .i + 1) (now (written .before .before .before .before .before .before .before .args .octets)))) (now (written .before .before .before .before .before .before .before .args .out))
+more written =
+    let at-loop = written .before .before .before .before in
+    let start = at-loop .before .before .before in
+    let octets = now (start .args .octets) in
+    let lent = now (start .args .out) in
+    let i = at-loop .loop .i in
+    let is-framed : tenBits (written .before .octet-ten .result) ≡ framedAll (take 1 (drop i octets)) = ap tenBits (written .before .octet-ten .ensures) ∙ framed-one octets i (at-loop .loop .inv .0) (written .before .before .shared-slice-known2 .given i .fits) in
+    framed-more octets lent (at-loop .loop .out) i (start .pre .1 .1 .0) (omega arith) (at-loop .loop .inv .1) 1 (written .write-ten .last .0)
+    (written .write-ten .ensures ∙ ap (λ (bits : List ℕ). front bits (take (length (at-loop .loop .out) - 10 * i) (drop (10 * i) (at-loop .loop .out)))) is-framed)
 
 loop-holds : tie.Need-loop-holds Inv-loop μ-loop
 unfolding framedAll
@@ -70,8 +75,8 @@ octet-ten-requires c κs = search needs
 
 write-ten-requires : tie.Need-write-ten-requires Inv-loop μ-loop
 write-ten-requires c κs =
-    let l = c .before .before .before in
-    (omega (arith, left l), omega (arith, c .octet-ten .ensures, c .before .shared-slice-known2 .given (l .loop .i)), l .before .before .before .pre .3)
+    let at-loop = c .before .before .before in
+    (omega (arith, left at-loop), (omega (arith, c .octet-ten .ensures, c .before .shared-slice-known2 .given (at-loop .loop .i)), at-loop .before .before .before .pre .1 .1 .1))
 
 add-i : tie.Need-add-i Inv-loop μ-loop
 add-i c = search needs
@@ -81,29 +86,29 @@ group-ends-requires c κs = search needs
 
 same-length : tie.Need-same-length Inv-loop μ-loop
 same-length c =
-    let w = c .before .before .before .before in
-    let l = w .before .before .before .before in
-    let s = l .before .before .before in
-    out-length (now (s .args .octets)) (now (s .args .out)) _ (l .loop .i + 1) (s .pre .2) (omega arith) (more w)
+    let written = c .before .before .before .before in
+    let at-loop = written .before .before .before .before in
+    let start = at-loop .before .before .before in
+    out-length (now (start .args .octets)) (now (start .args .out)) _ (at-loop .loop .i + 1) (start .pre .1 .1 .0) (omega arith) (more written)
 
 returns : tie.Need-returns Inv-loop μ-loop
 returns c =
-    let w = c .before .before .before .before in
-    let l = w .before .before .before .before in
-    let o = now (l .before .before .before .args .octets) in
-    let ends = group-end o (l .loop .i + 1) (sym (c .before .group-ends .ensures) ∙ c .if1 .taken) in
-    record { count = omega (arith, l .loop .inv .2); some = omega arith; buffer = more w }
+    let written = c .before .before .before .before in
+    let at-loop = written .before .before .before .before in
+    let octets = now (at-loop .before .before .before .args .octets) in
+    let ends = group-end octets (at-loop .loop .i + 1) (sym (c .before .group-ends .ensures) ∙ c .if1 .taken) in
+    record { count = omega (arith, at-loop .loop .inv .2); some = omega arith; buffer = more written }
 
 loop-less : tie.Need-loop-less Inv-loop μ-loop
 loop-less c = search needs
 
 loop-again : tie.Need-loop-again Inv-loop μ-loop
 loop-again c =
-    let w = c .before .before .before .before in
-    let l = w .before .before .before .before in
-    let o = now (l .before .before .before .args .octets) in
-    let on = group-on o (l .loop .i + 1) (sym (c .before .group-ends .ensures) ∙ c .if1 .left) in
-    (on .0, more w, omega (arith, l .loop .inv .2, on .1))
+    let written = c .before .before .before .before in
+    let at-loop = written .before .before .before .before in
+    let octets = now (at-loop .before .before .before .args .octets) in
+    let goes-on = group-on octets (at-loop .loop .i + 1) (sym (c .before .group-ends .ensures) ∙ c .if1 .left) in
+    (goes-on .0, more written, omega (arith, at-loop .loop .inv .2, goes-on .1))
 
 pub write-group-spec : {M : Type 1} → statement M
 write-group-spec =

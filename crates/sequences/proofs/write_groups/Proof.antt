@@ -1,3 +1,6 @@
+-- `sequences::write_groups` meets its contract. Invariant: the first i octets stand framed at the front of the buffer; a group written
+-- into what lies behind them makes them i and the group's, by `framed-more`.
+-- Assumes nothing.
 use borrow.Author.Needs.{needs}
 use native.Mathlib.Omega.{arith}
 use Prim.Native.Nat.{ℕ, _≤_, _-_, _+_, _*_}
@@ -20,18 +23,19 @@ abbrev μ-loop : tie.MeasureT-loop
 μ-loop out₀ octets spread i₀ out i = length octets - i
 
 -- the buffer is as long as it was lent
-long : (l : tie.At-loop Inv-loop μ-loop) → length (l .loop .out) ≡ length (now (l .before .before .before .args .out))
-long l =
-    let s = l .before .before .before in
-    out-length (now (s .args .octets)) (now (s .args .out)) (l .loop .out) (l .loop .i) (s .pre .1) (l .loop .inv .0) (l .loop .inv .1)
+long : (at-loop : tie.At-loop Inv-loop μ-loop) → length (at-loop .loop .out) ≡ length (now (at-loop .before .before .before .args .out))
+long at-loop =
+    let start = at-loop .before .before .before in
+    out-length (now (start .args .octets)) (now (start .args .out)) (at-loop .loop .out) (at-loop .loop .i) (start .pre .1 .0) (at-loop .loop .inv .0) (at-loop .loop .inv .1)
 
 -- the group's octets are among those that are left
-on : (w : tie.After-write-group Inv-loop μ-loop) → w .before .before .before .before .loop .i + w .write-group .result ≤ length (now (w .before .before .before .before .before .before .before .args .octets))
-on w =
-    let l = w .before .before .before .before in
-    let o = now (l .before .before .before .args .octets) in
-    let left = ap length (rest-of o (l .loop .i)) ∙ length-drop (l .loop .i) o in
-    omega (arith, w .write-group .ensures .some)
+among : (written : tie.After-write-group Inv-loop μ-loop)
+    → written .before .before .before .before .loop .i + written .write-group .result ≤ length (now (written .before .before .before .before .before .before .before .args .octets))
+among written =
+    let at-loop = written .before .before .before .before in
+    let octets = now (at-loop .before .before .before .args .octets) in
+    let left = ap length (rest-of octets (at-loop .loop .i)) ∙ length-drop (at-loop .loop .i) octets in
+    omega (arith, written .write-group .ensures .some)
 
 loop-holds : tie.Need-loop-holds Inv-loop μ-loop
 unfolding framedAll
@@ -60,38 +64,38 @@ part-write-group-end-2 c = search needs
 
 write-group-requires : tie.Need-write-group-requires Inv-loop μ-loop
 write-group-requires c κs =
-    let l = c .before .before .before in
-    let s = l .before .before .before in
-    let o = now (s .args .octets) in
-    let left = ap length (rest-of o (l .loop .i)) ∙ length-drop (l .loop .i) o in
-    let room = rest-length o (now (s .args .out)) (l .loop .out) (l .loop .i) (s .pre .1) (l .loop .inv .0) (l .loop .inv .1) in
-    (omega arith, omega arith, omega arith, s .pre .2)
+    let at-loop = c .before .before .before in
+    let start = at-loop .before .before .before in
+    let octets = now (start .args .octets) in
+    let left = ap length (rest-of octets (at-loop .loop .i)) ∙ length-drop (at-loop .loop .i) octets in
+    let room = rest-length octets (now (start .args .out)) (at-loop .loop .out) (at-loop .loop .i) (start .pre .1 .0) (at-loop .loop .inv .0) (at-loop .loop .inv .1) in
+    (omega arith, (omega arith, (omega arith, start .pre .1 .1)))
 
 add-i : tie.Need-add-i Inv-loop μ-loop
-add-i c = omega (arith, on (c .before .before))
+add-i c = omega (arith, among (c .before .before))
 
 loop-less : tie.Need-loop-less Inv-loop μ-loop
-loop-less c = omega (arith, on (c .before .before), c .before .before .write-group .ensures .count)
+loop-less c = omega (arith, among (c .before .before), c .before .before .write-group .ensures .count)
 
 loop-again : tie.Need-loop-again Inv-loop μ-loop
 loop-again c =
-    let w = c .before .before in
-    let l = w .before .before .before .before in
-    let s = l .before .before .before in
-    let o = now (s .args .octets) in
-    let r = w .write-group .result in
-    let e = w .write-group .ensures .buffer ∙ ap (λ (t : List ℕ). front (framedAll (take r t)) (take (length (l .loop .out) - 10 * l .loop .i) (drop (10 * l .loop .i) (l .loop .out)))) (rest-of o (l .loop .i)) in
-    (on w, framed-more o (now (s .args .out)) (l .loop .out) (l .loop .i) (s .pre .1) (l .loop .inv .0) (l .loop .inv .1) r (w .write-group .last .0) e)
+    let written = c .before .before in
+    let at-loop = written .before .before .before .before in
+    let start = at-loop .before .before .before in
+    let octets = now (start .args .octets) in
+    let i = at-loop .loop .i in
+    let count = written .write-group .result in
+    let group-put = written .write-group .ensures .buffer ∙ ap (λ (rest : List ℕ). front (framedAll (take count rest)) (take (length (at-loop .loop .out) - 10 * i) (drop (10 * i) (at-loop .loop .out)))) (rest-of octets i) in
+    (among written, framed-more octets (now (start .args .out)) (at-loop .loop .out) i (start .pre .1 .0) (at-loop .loop .inv .0) (at-loop .loop .inv .1) count (written .write-group .last .0) group-put)
 
 same-length : tie.Need-same-length Inv-loop μ-loop
 same-length c = long (c .before)
 
 returns : tie.Need-returns Inv-loop μ-loop
 returns c =
-    let l = c .before in
-    let s = l .before .before .before in
-    let o = now (s .args .octets) in
-    l .loop .inv .1 ∙ ap (λ (t : List ℕ). front (framedAll t) (now (s .args .out))) (take-all (l .loop .i) o (c .loop-test .left))
+    let at-loop = c .before in
+    let start = at-loop .before .before .before in
+    at-loop .loop .inv .1 ∙ ap (λ (done : List ℕ). front (framedAll done) (now (start .args .out))) (take-all (at-loop .loop .i) (now (start .args .octets)) (c .loop-test .left))
 
 pub write-groups-spec : {M : Type 1} → statement M
 write-groups-spec =

@@ -1,3 +1,6 @@
+-- `sequences::write_ten` meets its contract: the ten bytes stored one by one are those of two spreads and two bits, and by `ten-stored`
+-- these are the ten bits of v.
+-- Assumes nothing.
 use native.Mathlib.Omega.{arith}
 use Prim.Native.Nat.{ℕ, _%_}
 use mathlib.Core.Path.{_≡_, ap, _∙_}
@@ -6,7 +9,7 @@ use lib.ListN.{getD, length-set}
 use lib.Seq.{sets-eq}
 use denote.Ref.{now}
 use Rattle.laws.specs.Front.{front}
-use Rattle.sequences.specs.Tens.{spreads, tenBits}
+use Rattle.sequences.specs.Inner.{spreads, tenBits}
 use Rattle.sequences.proofs.Lines.{storedTen, ten-stored}
 use borrow.Author.Needs.{needs}
 use Rattle.sequences.proofs.write_ten.Statement.{statement}
@@ -83,14 +86,14 @@ same-length c = simp length-set
 
 returns : tie.Need-returns
 returns c =
-    let s = c .before .before .before in
-    let v = s .args .v in
-    let old = now (s .args .out) in
+    let start = c .before .before .before in
+    let v = start .args .v in
+    let lent = now (start .args .out) in
     let low = c .before .four in
     let high = c .four2 in
     let stored : storedTen (low .result) (high .result) v ≡ tenBits v =
-    ap (λ (w : ℕ). storedTen w (high .result) v) (low .ensures) ∙ ap (λ (w : ℕ). storedTen (getD spreads (v % 16) 0) w v) (high .ensures) ∙ ten-stored v (s .pre .1) in
-    sets-eq (storedTen (low .result) (high .result) v) old 0 (s .pre .0) ∙ ap (λ (g : List ℕ). front g old) stored
+    ap (λ (w : ℕ). storedTen w (high .result) v) (low .ensures) ∙ ap (λ (w : ℕ). storedTen (getD spreads (v % 16) 0) w v) (high .ensures) ∙ ten-stored v (start .pre .1 .0) in
+    sets-eq (storedTen (low .result) (high .result) v) lent 0 (start .pre .0) ∙ ap (λ (bits : List ℕ). front bits lent) stored
 
 pub write-ten-spec : {M : Type 1} → statement M
 write-ten-spec =

@@ -1,18 +1,20 @@
-use Rattle.laws.specs.Choice.{choose}
+-- `steps::answer_of` meets its contract: over decides first, then whether the session goes on.
+-- Assumes nothing.
+use Rattle.laws.specs.Logic.{when}
 use borrow.Author.Tests.{eq-eqb, ne-eqb}
 use Rattle.steps.proofs.answer_of.Statement.{statement}
 use Rattle.steps.proofs.answer_of.Tie as tie
 
 returns : tie.Need-returns
-unfolding choose
+unfolding when
 returns c = simp (eq-eqb _ _ (c .if2 .taken), eq-eqb _ _ (c .before .if1 .taken))
 
 returns-2 : tie.Need-returns-2
-unfolding choose
+unfolding when
 returns-2 c = simp (ne-eqb _ _ (c .if2 .left), eq-eqb _ _ (c .before .if1 .taken))
 
 returns-3 : tie.Need-returns-3
-unfolding choose
+unfolding when
 returns-3 c = simp (ne-eqb _ _ (c .if1 .left))
 
 pub answer-of-spec : {M : Type 1} → statement M

@@ -1,4 +1,6 @@
-use Rattle.laws.specs.Choice.{both}
+-- `steps::in_range` meets its contract: the five tests of `inRange`, in its order, and the first that fails decides.
+-- Assumes nothing.
+use Rattle.laws.specs.Logic.{both}
 use Rattle.steps.specs.Session.{inRange}
 use borrow.Author.Needs.{needs}
 use Rattle.steps.proofs.in_range.Statement.{statement}

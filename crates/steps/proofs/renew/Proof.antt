@@ -1,3 +1,5 @@
+-- `steps::renew` meets its contract: it makes the session of `renewed`, with the choice that `choice_after` gives.
+-- Assumes nothing.
 use borrow.Author.Needs.{needs}
 use Rattle.steps.proofs.renew.Statement.{statement}
 use Rattle.steps.proofs.renew.Tie as tie

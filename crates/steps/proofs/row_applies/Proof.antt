@@ -1,28 +1,25 @@
-use Rattle.laws.specs.Choice.{both}
-use Rattle.steps.specs.Stepping.{applies}
-use borrow.Author.Tests.{le-leb, lt-leb, eq-eqb, ne-eqb}
-use borrow.Author.Needs.{needs}
+-- `steps::row_applies` meets its contract: the tests are those of `rowFits`, in its order, and the first that fails decides.
+-- Assumes nothing.
+use Rattle.laws.proofs.Cases.{cases}
+use Rattle.laws.specs.Logic.{both}
 use Rattle.steps.proofs.row_applies.Statement.{statement}
 use Rattle.steps.proofs.row_applies.Tie as tie
 
-does-hold-requires : tie.Need-does-hold-requires
-does-hold-requires c κs = search needs
-
 returns : tie.Need-returns
-unfolding applies both
-returns c = simp (c .does-hold .ensures, le-leb _ _ (c .before .if3 .taken), eq-eqb _ _ (c .before .before .before .if2 .taken), eq-eqb _ _ (c .before .before .before .before .before .if1 .taken))
+unfolding both
+returns c = search cases
 
 returns-2 : tie.Need-returns-2
-unfolding applies both
-returns-2 c = simp (lt-leb _ _ (c .if3 .left), eq-eqb _ _ (c .before .before .if2 .taken), eq-eqb _ _ (c .before .before .before .before .if1 .taken))
+unfolding both
+returns-2 c = search cases
 
 returns-3 : tie.Need-returns-3
-unfolding applies both
-returns-3 c = simp (ne-eqb _ _ (c .if2 .left), eq-eqb _ _ (c .before .before .if1 .taken))
+unfolding both
+returns-3 c = search cases
 
 returns-4 : tie.Need-returns-4
-unfolding applies both
-returns-4 c = simp (ne-eqb _ _ (c .if1 .left))
+unfolding both
+returns-4 c = search cases
 
 pub row-applies-spec : {M : Type 1} → statement M
-row-applies-spec = tie.close (tie.spec does-hold-requires returns returns-2 returns-3 returns-4)
+row-applies-spec = tie.close (tie.spec returns returns-2 returns-3 returns-4)

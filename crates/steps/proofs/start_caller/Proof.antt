@@ -1,4 +1,6 @@
-use Rattle.laws.specs.Choice.{choose}
+-- `steps::start_caller` meets its contract: the test of Te decides between a session and the refusal.
+-- Assumes nothing.
+use Rattle.laws.specs.Logic.{when}
 use borrow.Author.Needs.{needs}
 use Rattle.steps.proofs.start_caller.Statement.{statement}
 use Rattle.steps.proofs.start_caller.Tie as tie
@@ -10,11 +12,11 @@ caller-from-requires : tie.Need-caller-from-requires
 caller-from-requires c κs = search needs
 
 returns : tie.Need-returns
-unfolding choose
+unfolding when
 returns c = simp (c .caller-from .ensures, c .before .if1 .taken, ← c .before .before .is-te .ensures)
 
 returns-2 : tie.Need-returns-2
-unfolding choose
+unfolding when
 returns-2 c = simp (c .if1 .left, ← c .before .is-te .ensures)
 
 pub start-caller-spec : {M : Type 1} → statement M

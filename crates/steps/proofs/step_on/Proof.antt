@@ -1,3 +1,5 @@
+-- `steps::step_on` meets its contract: what `find_row` answers is taken apart as `moved` does it.
+-- Assumes nothing.
 use mathlib.Core.Path.{refl}
 use borrow.Author.Needs.{needs}
 use Rattle.steps.proofs.step_on.Statement.{statement}
@@ -18,13 +20,13 @@ returns c = simp (← c .before .before .find-row .ensures, c .enum-told .given 
 renew-requires : tie.Need-renew-requires
 renew-requires c κs = search needs
 
-take-requires : tie.Need-take-requires
-take-requires c κs = search needs
+take-row-requires : tie.Need-take-row-requires
+take-row-requires c κs = search needs
 
 returns-2 : tie.Need-returns-2
 returns-2 c =
-    let t = rw (c .before .renew .ensures) at (c .take .ensures) in
-    simp (← c .before .before .before .before .before .find-row .ensures, c .before .before .before .found .given .1) t
+    let renewed-first = rw (c .before .renew .ensures) at (c .take-row .ensures) in
+    simp (← c .before .before .before .before .before .find-row .ensures, c .before .before .before .found .given .1) renewed-first
 
 pub step-on-spec : {M : Type 1} → statement M
 step-on-spec =
@@ -35,5 +37,5 @@ step-on-spec =
     enum-told
     returns
     renew-requires
-    take-requires
+    take-row-requires
     returns-2)

@@ -1,3 +1,5 @@
+-- `tailsprig::tailsprig_call_function` meets its contract: the menu that `call_source` names is told as its number.
+-- Assumes nothing.
 use mathlib.Core.Path.{ap, _∙_}
 use Rattle.codes.specs.Choosing.{sourceCode}
 use borrow.Author.Needs.{needs}

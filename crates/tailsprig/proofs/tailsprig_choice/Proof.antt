@@ -1,3 +1,5 @@
+-- `tailsprig::tailsprig_choice` meets its contract: what `choice_of` answers is told as its number.
+-- Assumes nothing.
 use mathlib.Core.Path.{ap, _∙_}
 use Rattle.codes.specs.Choosing.{choiceCode}
 use Rattle.codes.proofs.Codes.{read-answer}

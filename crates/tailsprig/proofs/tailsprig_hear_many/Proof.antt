@@ -1,3 +1,6 @@
+-- `tailsprig::tailsprig_hear_many` meets its contract: what `hear_many` reports is told as its number; the record and how many bits were
+-- taken go out as they are.
+-- Assumes nothing.
 use mathlib.Core.Path.{ap, _∙_}
 use Rattle.codes.specs.Hearing.{toldCode}
 use Rattle.codes.proofs.Codes.{read-answer}
@@ -14,7 +17,7 @@ heard-code-requires c κs = search needs
 returns : tie.Need-returns
 returns c =
     let many = c .before .before .hear-many .ensures in
-    record { answer = read-answer (c .heard-code .result) (c .heard-code .ok) ∙ c .heard-code .ensures ∙ ap toldCode (many .heard); rec = many .rec; taken = many .taken }
+    record { answer = read-answer (c .heard-code .result) (c .heard-code .ok) ∙ c .heard-code .ensures ∙ ap toldCode (many .report); rec = many .rec; taken = many .taken }
 
 pub tailsprig-hear-many-spec : {M : Type 1} → statement M
 tailsprig-hear-many-spec = tie.close (tie.spec hear-many-requires heard-code-requires returns)

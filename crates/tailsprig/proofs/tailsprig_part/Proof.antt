@@ -1,3 +1,5 @@
+-- `tailsprig::tailsprig_part` meets its contract: how long the part is that `menus::part` hands back.
+-- Assumes nothing.
 use mathlib.Core.Path.{ap}
 use lib.ListN.{length}
 use borrow.Author.Needs.{needs}

@@ -1,3 +1,6 @@
+-- `tailsprig::tailsprig_start_caller` meets its contract: whether the start is refused decides; a session goes out as it is, and beside a
+-- refusal stands `noSession`.
+-- Assumes nothing.
 use mathlib.Core.Path.{refl, sym, ap, _∙_}
 use Rattle.steps.specs.Session.{saysStarted}
 use Rattle.codes.proofs.Codes.{read-answer}
@@ -17,19 +20,19 @@ enum-known-started-2 c = search needs
 no-session-requires : tie.Need-no-session-requires
 no-session-requires c κs = search needs
 
-refused-requires : tie.Need-refused-requires
-refused-requires c κs = search needs
+refusal-code-requires : tie.Need-refusal-code-requires
+refusal-code-requires c κs = search needs
 
 returns : tie.Need-returns
 returns c =
-    let e = ap saysStarted (sym (c .before .started .given .1)) ∙ c .before .before .before .start-caller .ensures in
-    rw (sym e) (record { answer = refl; session = refl })
+    let started = ap saysStarted (sym (c .before .started .given .1)) ∙ c .before .before .before .start-caller .ensures in
+    rw (sym started) (record { answer = refl; session = refl })
 
 returns-2 : tie.Need-returns-2
 returns-2 c =
-    let m = c .before .before .before in
-    let e = ap saysStarted (sym (m .started2 .given .1)) ∙ m .before .before .start-caller .ensures in
-    rw (sym e) (record { answer = read-answer (c .refused .result) (c .refused .ok) ∙ c .refused .ensures; session = c .before .no-session .ensures })
+    let in-arm = c .before .before .before in
+    let refused = ap saysStarted (sym (in-arm .started2 .given .1)) ∙ in-arm .before .before .start-caller .ensures in
+    rw (sym refused) (record { answer = read-answer (c .refusal-code .result) (c .refusal-code .ok) ∙ c .refusal-code .ensures; session = c .before .no-session .ensures })
 
 pub tailsprig-start-caller-spec : {M : Type 1} → statement M
 tailsprig-start-caller-spec =
@@ -39,6 +42,6 @@ tailsprig-start-caller-spec =
     enum-known-started
     enum-known-started-2
     no-session-requires
-    refused-requires
+    refusal-code-requires
     returns
     returns-2)

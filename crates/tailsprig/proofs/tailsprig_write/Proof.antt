@@ -1,7 +1,10 @@
+-- `tailsprig::tailsprig_write` meets its contract: whether the number asks for a kind decides; then what `write` answers is told as its
+-- number, from which nothing is cut off (`written-whole`), and the buffer is as it left it.
+-- Assumes nothing.
 use mathlib.Core.Path.{refl, sym, _∙_}
 use denote.Ref.{now}
 use Rattle.codes.proofs.Codes.{read-answer}
-use Rattle.tailsprig.proofs.Codes.{written-small, meets-small, returns-as}
+use Rattle.tailsprig.proofs.Counts.{written-whole, returns-as}
 use borrow.Author.Needs.{needs}
 use Rattle.tailsprig.proofs.tailsprig_write.Statement.{statement}
 use Rattle.tailsprig.proofs.tailsprig_write.Tie as tie
@@ -15,32 +18,30 @@ enum-known-asked c = search needs
 enum-told : tie.Need-enum-told
 enum-told c = search needs
 
-refused-requires : tie.Need-refused-requires
-refused-requires c κs = search needs
+refusal-code-requires : tie.Need-refusal-code-requires
+refusal-code-requires c κs = search needs
 
 returns : tie.Need-returns
 returns c =
-    let e = sym (c .before .before .before .kind-of .ensures) ∙ c .before .enum-told .given .1 in
-    rw e (record { answer = read-answer (c .refused .result) (c .refused .ok) ∙ c .refused .ensures; buffer = refl })
+    let unknown = sym (c .before .before .before .kind-of .ensures) ∙ c .before .enum-told .given .1 in
+    rw unknown (record { answer = read-answer (c .refusal-code .result) (c .refusal-code .ok) ∙ c .refusal-code .ensures; buffer = refl })
 
 write-requires : tie.Need-write-requires
 write-requires c κs = search needs
 
-wrote-requires : tie.Need-wrote-requires
-wrote-requires c κs =
-    let w = c .before .before in
-    let s = w .before .before .before .before .before .before .before .before in
-    meets-small _ (w .write .result) (w .write .last .1 .1 .1 .0) (w .write .ensures) (written-small _ (now (s .args .octets)) (s .args .copies) (now (s .args .out)) (search needs))
+wrote-code-requires : tie.Need-wrote-code-requires
+wrote-code-requires c κs = search needs
 
 same-length : tie.Need-same-length
 same-length c = search needs
 
 returns-2 : tie.Need-returns-2
 returns-2 c =
-    let w = c .before .before .before .write in
-    let k = c .before .before .before .before .before .before in
-    let e = sym (k .before .before .kind-of .ensures) ∙ k .asked .given .1 in
-    rw e (returns-as _ (w .result) (w .last .1 .1 .1 .0) (c .wrote .result) (w .ensures) (c .wrote .ok) (c .wrote .ensures))
+    let written = c .before .before .before .write in
+    let in-arm = c .before .before .before .before .before .before in
+    let known = sym (in-arm .before .before .kind-of .ensures) ∙ in-arm .asked .given .1 in
+    let given = c .before .before .before .before .before .before .before .before .before .before .before .args in
+    rw known (returns-as _ (written .result) (written .last .1 .1 .1 .0) (c .wrote-code .result) (written-whole _ (now (given .octets)) (given .copies) (now (given .out)) (search needs)) (written .ensures) (c .wrote-code .ok) (c .wrote-code .ensures))
 
 pub tailsprig-write-spec : {M : Type 1} → statement M
 tailsprig-write-spec =
@@ -49,9 +50,9 @@ tailsprig-write-spec =
     kind-of-requires
     enum-known-asked
     enum-told
-    refused-requires
+    refusal-code-requires
     returns
     write-requires
-    wrote-requires
+    wrote-code-requires
     same-length
     returns-2)

@@ -1,3 +1,6 @@
+-- `rehearse::plans::read` is safe and ends. Invariant: there are no more lines than bytes read, and the next line starts at most one behind the
+-- text, which is where the last one leads that no line feed ends.
+-- Assumes nothing.
 use borrow.Author.Needs.{needs}
 use Prim.Native.Nat.{suc, _≤_, _-_}
 use mathlib.Core.Path.{_≡_}

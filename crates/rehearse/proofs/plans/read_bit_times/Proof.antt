@@ -1,3 +1,6 @@
+-- `rehearse::plans::read_bit_times` is safe and ends. Invariant: `at` is in the line, and the list of damaged bits is as long as it was lent; it
+-- ends since it makes at most as many turns as the line has bytes.
+-- Assumes nothing.
 use borrow.Author.Needs.{needs}
 use Prim.Native.Nat.{_≤_}
 use mathlib.Core.Path.{_≡_}

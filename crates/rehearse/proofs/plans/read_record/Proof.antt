@@ -1,3 +1,5 @@
+-- `rehearse::plans::read_record` is safe and ends. Invariant: i is at most 6, so a place of the six functions wherever one is stored.
+-- Assumes nothing.
 use borrow.Author.Needs.{needs}
 use Prim.Native.Nat.{_≤_, _-_}
 use Rattle.rehearse.proofs.plans.read_record.Statement.{statement}

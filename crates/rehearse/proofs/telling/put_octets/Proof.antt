@@ -1,3 +1,5 @@
+-- `rehearse::telling::put_octets` is safe and ends. Invariant: the page is as long as it was lent, however much is put on it.
+-- Assumes nothing.
 use borrow.Author.Needs.{needs}
 use Prim.Native.Nat.{_-_}
 use mathlib.Core.Path.{_≡_}

@@ -1,3 +1,5 @@
+-- `rehearse::telling::write_line` is safe: whether the line ends within the page decides what is written.
+-- Assumes nothing.
 use borrow.Author.Needs.{needs}
 use mathlib.Core.Path.{sym}
 use lib.Seq.{length-take-le}

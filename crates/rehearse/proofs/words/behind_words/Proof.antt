@@ -1,3 +1,5 @@
+-- `rehearse::words::behind_words` meets its contract. Invariant: `at` is in the line, since `find` never answers a place behind it.
+-- Assumes nothing.
 use borrow.Author.Needs.{needs}
 use Prim.Native.Nat.{_≤_, _-_}
 use lib.ListN.{length}

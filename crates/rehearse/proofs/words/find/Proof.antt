@@ -1,3 +1,5 @@
+-- `rehearse::words::find` meets its contract. Invariant: i is between `at` and the end of the text.
+-- Assumes nothing.
 use borrow.Author.Needs.{needs}
 use Prim.Native.Nat.{_≤_, _-_}
 use lib.ListN.{length}

@@ -1,3 +1,6 @@
+-- `rehearse::words::line` is safe and ends. Invariant: `from` is in the text, since a line is left only where its line feed was found before the
+-- end.
+-- Assumes nothing.
 use borrow.Author.Needs.{needs}
 use Prim.Native.Nat.{_≤_, _-_}
 use lib.ListN.{length}

@@ -1,3 +1,5 @@
+-- `rehearse::words::number` is safe and ends. Invariant: the number is at most 100,000, so the next digit fits wherever it is not refused.
+-- Assumes nothing.
 use borrow.Author.Needs.{needs}
 use Prim.Native.Nat.{_≤_, _-_}
 use lib.ListN.{length}

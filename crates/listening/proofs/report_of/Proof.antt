@@ -1,0 +1,22 @@
+-- `listening::report_of` meets its contract: whether the message is a CI decides, as in `reported`.
+-- Assumes nothing.
+use Rattle.listening.specs.Hearing.{reported}
+use borrow.Author.Tests.{eq-eqb, ne-eqb}
+use Rattle.laws.specs.Logic.{when}
+use borrow.Author.Needs.{needs}
+use Rattle.listening.proofs.report_of.Statement.{statement}
+use Rattle.listening.proofs.report_of.Tie as tie
+
+returns : tie.Need-returns
+unfolding when reported
+returns c = simp (eq-eqb _ _ (c .if1 .taken))
+
+agree-requires : tie.Need-agree-requires
+agree-requires c κs = search needs
+
+returns-2 : tie.Need-returns-2
+unfolding when reported
+returns-2 c = simp (c .agree .ensures, ne-eqb _ _ (c .before .if1 .left))
+
+pub report-of-spec : {M : Type 1} → statement M
+report-of-spec = tie.close (tie.spec returns agree-requires returns-2)

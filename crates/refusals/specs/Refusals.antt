@@ -1,0 +1,33 @@
+-- Document 01, 'Refusal numbers'.
+use Prim.Native.Nat.{ℕ}
+use lib.Dec.{eqb}
+use Rattle.laws.specs.Logic.{when}
+use Rattle.refusals.specs.declared.Refusal.{Refusal}
+use Rattle.refusals.specs.declared.Refusal.the-variants.{NotABit, StopBitZero, BadOctet, TooManyOctets, NoCallFunction, ShortBuffer, AfterOver, Clock, WrongEvent, BadRecord, NotOffered, WrongCategory, CutShort}
+use Rattle.refusals.specs.declared.Verdict.{Verdict}
+use Rattle.refusals.specs.declared.Verdict.the-variants.{Accepted, Refused}
+
+-- the table's first column
+abbrev pub number : Refusal → ℕ
+number NotABit = 1
+number StopBitZero = 2
+number BadOctet = 3
+number TooManyOctets = 4
+number NoCallFunction = 5
+number ShortBuffer = 6
+number AfterOver = 7
+number Clock = 8
+number WrongEvent = 9
+number BadRecord = 10
+number NotOffered = 11
+number WrongCategory = 12
+number CutShort = 13
+
+-- "A refusal carries its number alone": a verdict as that number, or 0 where nothing is refused
+abbrev pub fault : Verdict → ℕ
+fault Accepted = 0
+fault (Refused r) = number r
+
+-- the order of refusals: the first number, or where that is 0 the second
+abbrev pub before : ℕ → ℕ → ℕ
+before f g = when (eqb f 0) g f
