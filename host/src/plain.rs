@@ -1,8 +1,10 @@
 //! The same rules in plain Rust: what the benchmark measures the proved library against.
 mod listener;
+mod steps;
 
 use crate::{Kind, Refusal};
 pub use listener::{listing, Listener};
+pub use steps::step;
 
 fn is_category(octet: u8) -> bool {
     octet & 0x10 == 0

@@ -1,6 +1,7 @@
-//! The plain Rust that the library is timed and compared with keeps to the same vectors and recordings.
+//! The plain Rust that the library is timed and compared with keeps to the same vectors and recordings, and answers the same steps.
 use std::{fs, path::PathBuf};
-use tailsprig::{plain, text};
+use tailsprig::c::Session;
+use tailsprig::{c, plain, text};
 
 fn tests(name: &str) -> PathBuf {
     PathBuf::from(env!("CARGO_MANIFEST_DIR")).join("../tests").join(name)
@@ -51,4 +52,33 @@ fn plain_listing_prints_the_listings_of_the_recordings() {
         }
     }
     assert!(files > 0, "no recordings");
+}
+
+/// Sessions in their ranges and just outside, each at the entry time 1,000.
+fn sessions() -> impl Iterator<Item = Session> {
+    let ends_and_states = (0..4).flat_map(|end| (0..12).map(move |state| (end, state)));
+    ends_and_states.flat_map(|(end, state)| {
+        [0, 499, 500, 700, 5000, 5001].into_iter().flat_map(move |te| {
+            [0, 1, 3, 12, 13, 16, 17, 23, 24].into_iter().flat_map(move |chosen| {
+                (0..7).map(move |ended| Session { entry: 1000, te, end, state, chosen, ended })
+            })
+        })
+    })
+}
+
+#[test]
+fn plain_step_answers_what_the_library_does() {
+    // The entry time, each limit of the table and what is just before it, and the clock's two halves.
+    let limits = [0, 75, 200, 500, 700, 1000, 5000, 10_000, 1 << 31];
+    let times = limits.into_iter().flat_map(|limit: u32| [999u32.wrapping_add(limit), 1000u32.wrapping_add(limit)]);
+    let times: Vec<u32> = times.collect();
+    for session in sessions() {
+        for (event, value) in (0..11).flat_map(|event| [-11, -1, 0, 1, 3, 12, 13, 17, 23, 24].map(|value| (event, value))) {
+            for &now in &times {
+                // SAFETY: takes and answers numbers.
+                let ours = unsafe { c::tailsprig_step(session, event, value, now) };
+                assert_eq!(plain::step(session, event, value, now), ours, "{session:?} {event} {value} {now}");
+            }
+        }
+    }
 }

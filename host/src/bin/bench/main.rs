@@ -1,6 +1,6 @@
 //! `bench [LISTING [READER]]`: times the proved library beside plain Rust of the same rules, alternating in one run, and
-//! prints the nanoseconds a bit of each and how many times as long ours takes; with the path of the listing program, its
-//! megabytes a second too; with the shared object of `speed/spandsp_reader.c`, spandsp's reader of bits beside them. The best
+//! prints the nanoseconds a bit or a step of each and how many times as long ours takes; with the path of the listing program,
+//! its megabytes a second too; with the shared object of `speed/spandsp_reader.c`, spandsp's reader of bits beside them. The best
 //! of many rounds counts, so that what else the machine does weighs little.
 mod spandsp;
 
@@ -10,7 +10,8 @@ use std::path::Path;
 use std::process::{Command, Stdio};
 use std::time::Instant;
 use std::{env, fs, io, process};
-use tailsprig::{plain, text, Kind, Listener, Report};
+use tailsprig::c::{Session, StepTaken};
+use tailsprig::{c, plain, text, Kind, Listener, Report};
 
 const ROUNDS: usize = 200;
 const MENU: [u8; 5] = [0xc1, 0x45, 0x13, 0x90, 0x2a];
@@ -63,8 +64,9 @@ fn row(name: &str, (ours, rivals): (f64, [Option<f64>; RIVALS.len()]), show: imp
     println!("{name:<34} {} {} {:>17} {}", cell(Some(show(ours))), times.join(" "), "", ratios.join(" "));
 }
 
-fn compare(name: &str, bits: usize, ours: Work, rivals: [Option<Work>; RIVALS.len()]) {
-    row(name, best(ROUNDS, ours, rivals), |nanoseconds| format!("{:.3}", nanoseconds / bits as f64));
+/// The nanoseconds of each for one of so many bits or steps.
+fn compare(name: &str, count: usize, ours: Work, rivals: [Option<Work>; RIVALS.len()]) {
+    row(name, best(ROUNDS, ours, rivals), |nanoseconds| format!("{:.3}", nanoseconds / count as f64));
 }
 
 /// Calls of a writer on one message, as many as write about a million bits.
@@ -238,6 +240,68 @@ fn recordings(bits: usize) -> io::Result<Vec<u8>> {
     Ok(all.repeat(bits / all.len() + 1))
 }
 
+/// An event, what it carries, and its time, as the header's numbers.
+type Event = (u8, i32, u32);
+
+/// A whole call of each end, in which item 3 is agreed: the events from its start at 0 until it is over.
+const CALLER: [Event; 6] = [(9, 0, 1000), (1, 0, 1500), (9, 0, 2000), (4, 3, 4000), (5, 0, 4100), (9, 0, 4175)];
+const ANSWERER: [Event; 4] = [(9, 0, 200), (6, 3, 3000), (8, 0, 4200), (9, 0, 4275)];
+
+/// What the events are answered in turn, joined into one number.
+fn answers(start: Session, events: &[Event], step: impl Fn(Session, u8, i32, u32) -> StepTaken) -> i64 {
+    let mut session = start;
+    let mut joined = 0i64;
+    for &(event, value, now) in events {
+        let taken = step(session, event, value, now);
+        session = taken.session;
+        joined = joined.wrapping_mul(31).wrapping_add(taken.code.into());
+    }
+    joined
+}
+
+/// Each of the calls, a session at its start and its events, again and again.
+fn stepping(name: &str, calls: &[(Session, &[Event])]) {
+    // SAFETY: takes and answers numbers.
+    let ours = |session, event, value, now| unsafe { c::tailsprig_step(session, event, value, now) };
+    for &(start, events) in calls {
+        assert_eq!(answers(start, events, ours), answers(start, events, plain::step), "{name}: not the same was answered");
+    }
+    let events: usize = calls.iter().map(|(_, events)| events.len()).sum();
+    let times = 100_000 / events;
+    compare(
+        name,
+        times * events,
+        &mut || {
+            for &(start, events) in (0..times).flat_map(|_| black_box(calls)) {
+                black_box(answers(start, black_box(events), ours));
+            }
+        },
+        [
+            Some(&mut || {
+                for &(start, events) in (0..times).flat_map(|_| black_box(calls)) {
+                    black_box(answers(start, black_box(events), plain::step));
+                }
+            }),
+            None,
+            None,
+            None,
+        ],
+    );
+}
+
+/// Whole calls of both ends; ticks that change nothing, in menu and in answering; and events that are refused before the table is
+/// looked at.
+fn all_stepping() {
+    let caller = Session { entry: 0, te: 500, end: 1, state: 1, chosen: 0, ended: 0 };
+    let answerer = Session { entry: 0, te: 0, end: 2, state: 7, chosen: 0, ended: 0 };
+    stepping("step whole calls", &[(caller, &CALLER), (answerer, &ANSWERER)]);
+    let ticks: Vec<Event> = (0..100).map(|tick| (9, 0, 10 * tick)).collect();
+    let waiting = [(Session { state: 4, ..caller }, &ticks[..]), (Session { state: 8, ..answerer }, &ticks[..])];
+    stepping("step ticks that change nothing", &waiting);
+    let refused: Vec<Event> = ticks.iter().map(|&(_, value, now)| (8, value, now)).collect();
+    stepping("step events that are refused", &[(caller, &refused)]);
+}
+
 /// The listing program on 50 MB of menus, from a file and into nothing, beside plain Rust that does the same.
 fn listing(program: &str) -> io::Result<()> {
     let input: Vec<u8> = menus(50_000_000).iter().map(|bit| b'0' + bit).collect();
@@ -288,6 +352,9 @@ fn main() -> io::Result<()> {
     hearing("recordings", &recordings(200_000)?, spandsp);
     hearing("random bits", &random(200_000), spandsp);
     hearing("all 1s", &[1; 200_000], spandsp);
+    println!();
+    heading("nanoseconds a step");
+    all_stepping();
     match env::args().nth(1) {
         Some(program) => listing(&program),
         None => Ok(()),
