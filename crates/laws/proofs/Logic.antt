@@ -33,10 +33,6 @@ pub clash : {A : Type 0} → _≡_ {A = Bool} true false → A
 unfolding when
 clash e = absurd (let z : _≡_ {A = ℕ} 1 0 = ap (λ (b : Bool). when b 1 0) e in let w : ⊥ = omega arith in w)
 
-pub both-false : (a b : Bool) → both a b ≡ false → a ≡ true → b ≡ true → ⊥
-unfolding both
-both-false a b h x y = clash (sym (ap₂ both x y) ∙ h)
-
 -- a test as a bit: it is one, and 1 where the test holds
 pub bit-of-test : (t : Bool) → (when t 1 0 < 2) × (eqb (when t 1 0) 1 ≡ t)
 unfolding when

@@ -280,6 +280,7 @@ fn run(rec: Listener, bits: &[u8]) -> BitsHeard
         ear = a.ear;
         i = a.at;
         let act = a.act;
+        // what `tell` would say; the compiler puts it in place only where a report stands apart
         if act == REPORT {
             return BitsHeard {
                 rec: listener_of(ear, act_on(msg, last, act, ear.past)),
