@@ -100,7 +100,8 @@ fn refuse_record(functions: [Modes; 6], wrong: u8) -> RecordRead {
 
 // AVAILABLE:ITEMS:PCM, with the colons at these places.
 fn read_modes_at(word: &[u8], first: usize, second: usize) -> ModesRead
-    requires { ⌜ (first < length (now word)) × (second < length (now word)) ⌝ }
+    requires { ⌜ first < length (now word) ⌝ }
+    requires { ⌜ second < length (now word) ⌝ }
 {
     let available = words::number(words::part(word, 0, first));
     let items = words::items(words::part(word, first + 1, second));
@@ -267,7 +268,8 @@ fn read_function(plan: Plan, line: &[u8]) -> Plan {
 
 // Where it is kept whether a bit of an end, 0 for the caller and 1 for the answerer, is damaged.
 pub fn damage_place(time: usize, end: usize) -> usize
-    requires { ⌜ (time < 9000) × (end ≤ 1) ⌝ }
+    requires { ⌜ time < 9000 ⌝ }
+    requires { ⌜ end ≤ 1 ⌝ }
 {
     2 * time + end
 }

@@ -154,7 +154,8 @@ pub fn number(text: &[u8]) -> usize {
 }
 
 fn two_digits(high: usize, low: usize) -> usize
-    requires { ⌜ (high ≤ 16) × (low ≤ 16) ⌝ }
+    requires { ⌜ high ≤ 16 ⌝ }
+    requires { ⌜ low ≤ 16 ⌝ }
     ensures { λ r. ⌜ r ≤ 100000 ⌝ }
 {
     if high == 16 {
