@@ -11,7 +11,7 @@ digital options = options / 2 % 2
 abbrev pub v91 : ℕ → ℕ
 v91 options = options / 4 % 2
 
--- one end's options that pair with the other end's: "b5 if ours is analogue and theirs digital, b6 if ours is digital and theirs analogue;
--- b7 if both have V.91"; a product of bits is 1 where both are
+-- one end's options that pair with the other end's: "b5 if ours is analogue and theirs digital, b6 if ours is digital and theirs analogue,
+-- .. b7 if both have V.91"; a product of bits is 1 where both are
 unfoldable pub paired : ℕ → ℕ → ℕ
 paired theirs ours = analogue ours * digital theirs + 2 * (digital ours * analogue theirs) + 4 * (v91 ours * v91 theirs)

@@ -59,7 +59,7 @@ jmPcm modes cm = withItem1 (inSet (sharedItems modes cm) 1) (paired (cm .pcm) (m
 abbrev pub jmAccess : Record → Offer → ℕ → Bool
 jmAccess own cm pcm = either (flag (own .access)) (either (eqb (cm .«access_options» % 2) 1) (ltb 0 pcm))
 
--- "Function available: the same function, items in both. .. PCM is there when one of these is 1; item 0 goes with it. Function not available:
+-- "Function available: the same function, items in both. .. PCM is there when one of these is 1; item 0 goes with it." "Function not available:
 -- the home function, no items, no PCM. .. LAPM if theirs says so and ours wants it. .. b5 as theirs (0 if absent), b6 cellular, b7 digital."
 abbrev pub jmOfferOf : Record → Offer → Modes → Offer
 jmOfferOf own cm modes = record {

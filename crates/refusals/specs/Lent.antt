@@ -10,7 +10,7 @@ use Rattle.refusals.specs.declared.Wrote.{Wrote}
 use Rattle.refusals.specs.declared.Wrote.the-variants.{Count, Refused}
 use Rattle.refusals.specs.Refusals.{number}
 
--- "answers the number of bits written", or "a refusal carries its number alone"
+-- "answers the number of bits written", or "A refusal carries its number alone."
 pub data Said : Type 0 where
   count : ℕ → Said
   refusal : ℕ → Said
@@ -29,7 +29,7 @@ pub record WriteOutcome : Type 0 where
 abbrev pub roomFault : List ℕ → List ℕ → ℕ
 roomFault new out = when (ltb (length out) (length new)) 6 0
 
--- where nothing is refused it stands at the front and "later bytes keep their values"; on a refusal "buffers .. keep their values"
+-- where nothing is refused it stands at the front, "Later bytes keep their values."; on a refusal "Buffers .. keep their values."
 unfoldable pub put : ℕ → List ℕ → List ℕ → WriteOutcome
 put f new out =
     when (eqb f 0) (record { answer = count (length new); buffer = front new out })

@@ -1,6 +1,6 @@
 -- How many were written, and where a tag stands, fit the signed 32-bit integer that C gets: nothing is cut off on the way there.
 -- Assumes nothing.
-use Prim.Native.Nat.{ℕ, _<_, _≤_, _%_, _^_}
+use Prim.Native.Nat.{ℕ, _<_, _≤_, _^_}
 use native.Mathlib.Nat.{mod-eq-of-lt}
 use native.Mathlib.Omega.{arith}
 use mathlib.Core.Path.{_≡_, refl, ap, _∙_}
@@ -40,13 +40,10 @@ use Rattle.tailsprig.specs.Exports.{Returns}
 abbrev pub Whole : Said → Type 0
 Whole said = cutSaid said ≡ said
 
-small-whole : (n : ℕ) → n < 2 ^ 31 → n % 2 ^ 31 ≡ n
-small-whole n low = mod-eq-of-lt low
-
 -- no line is too long to be counted
 put-whole : (f : ℕ) (line out : List ℕ) → (f ≡ 0 → length line < 2 ^ 31) → Whole (put f line out .answer)
 unfolding put
-put-whole f line out short = either-way (λ (o : WriteOutcome). Whole (o .answer)) (eqb f 0) _ _ (λ e. ap count (small-whole (length line) (short (eqb-true f 0 e)))) (λ e. refl)
+put-whole f line out short = either-way (λ (o : WriteOutcome). Whole (o .answer)) (eqb f 0) _ _ (λ e. ap count (mod-eq-of-lt (short (eqb-true f 0 e)))) (λ e. refl)
 
 pub written-whole : (kind : Kind) (octets : List ℕ) (n : ℕ) (out : List ℕ) → n ≤ 65535 → Whole (written kind octets n out .answer)
 written-whole kind octets n out low =
@@ -71,7 +68,7 @@ returns-as laid w after r whole m fits e = record {
 
 -- nor is a place
 place-whole : (l : Looked) → Below 64 l → cutLooked l ≡ l
-place-whole (place n) low = ap place (small-whole n (omega arith))
+place-whole (place n) low = ap place (mod-eq-of-lt (let low : n < 2 ^ 31 = omega arith in low))
 place-whole nowhere low = refl
 place-whole (groups.refusal n) low = refl
 
