@@ -3,6 +3,7 @@
 use Prim.Native.Nat.{ℕ}
 use native.Mathlib.Omega.{arith}
 use mathlib.Core.Path.{_≡_, refl, sym, ap, _∙_}
+use mathlib.Core.Bool.{false}
 use mathlib.Core.List.{List, [], _∷_, _++_}
 use lib.ListN.{length, replicate}
 use Rattle.laws.specs.Logic.{when, both, either}
@@ -38,7 +39,7 @@ sayCount (count n) = n
 sayCount (refusal n) = 0
 
 abbrev reportLength : Report → ℕ
-reportLength (message kind octets) = length octets
+reportLength (message kind octets flag) = length octets
 reportLength cj = 0
 reportLength (stretched.refusal n) = 0
 
@@ -50,7 +51,7 @@ offered (menus.refusal n) = 0
 abbrev two : List ℕ
 two = sequence Ci (0xC1 ∷ []) ++ (sequence Menu (0xC1 ∷ 0x05 ∷ []) ++ tenOnes)
 
-both-reported : reports fresh two ≡ message Ci (0xC1 ∷ []) ∷ message Menu (0xC1 ∷ 0x05 ∷ []) ∷ []
+both-reported : reports fresh two ≡ message Ci (0xC1 ∷ []) false ∷ message Menu (0xC1 ∷ 0x05 ∷ []) false ∷ []
 unfolding when both either sameList framed framedAll sequence cjBits more isCj refusalIn hunted synced bounded stopped ended placed turned changed agreed reported told toldAlone acted heardIn reports firstFault
 both-reported = refl
 
@@ -63,6 +64,6 @@ no-named-wrong-program-fits = record {
   offer = λ read h. let z : _≡_ {A = ℕ} 1 0 = ap offered (h (0xC1 ∷ []) ∙ sym (h [])) in absurd (let w : ⊥ = omega arith in w);
   choice = λ chosen h. let z : _≡_ {A = ℕ} 1 0 = ap kindOf (h cmOfA (0xC1 ∷ 0x05 ∷ 0x13 ∷ 0x10 ∷ []) ∙ sym (h cmOfA (0xC1 ∷ []))) in absurd (let w : ⊥ = omega arith in w);
   changes = λ h. let z : _≡_ {A = ℕ} 1 0 = ap heardCount (h fresh 1) in absurd (let w : ⊥ = omega arith in w);
-  later = λ h. let z : _≡_ {A = ℕ} 1 2 = ap reportLength (h two (message Ci (0xC1 ∷ [])) (message Menu (0xC1 ∷ 0x05 ∷ [])) [] both-reported) in absurd (let w : ⊥ = omega arith in w);
+  later = λ h. let z : _≡_ {A = ℕ} 1 2 = ap reportLength (h two (message Ci (0xC1 ∷ []) false) (message Menu (0xC1 ∷ 0x05 ∷ []) false) [] both-reported) in absurd (let w : ⊥ = omega arith in w);
   counts = λ size h. let z : _≡_ {A = ℕ} 30 0 = ap sayCount (h Ci (0xC1 ∷ []) 1 (replicate 30 0) ∙ sym (h Ci (0xC1 ∷ []) 0 [])) in absurd (let w : ⊥ = omega arith in w);
 }

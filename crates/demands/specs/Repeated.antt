@@ -4,18 +4,20 @@ use Prim.Native.Nat.{ℕ}
 use mathlib.Core.Path.{_≡_}
 use mathlib.Core.Bool.{true}
 use mathlib.Core.List.{List, _++_}
-use lib.ListN.{take, replicate}
+use lib.ListN.{take}
 use Rattle.octets.specs.declared.Kind.{Kind}
 use Rattle.sequences.specs.Line.{tenOnes, sequence, copies}
 use Rattle.refusals.specs.Lent.{count}
 use Rattle.sequences.specs.Writing.{written}
 use Rattle.listening.specs.Record.{fresh}
 use Rattle.stretches.specs.Stretch.{octetsAll, AcceptedMessage, stretch, Long, Nowhere, flag}
-use Rattle.stretches.specs.Hearing.{message, reports, Reads}
+use Rattle.stretches.specs.Hearing.{reports, repeated, Reads}
 
 -- "Take two messages that our writer accepts, each repeated without end. Cut a stretch from each, from any bit, as long as twice the longer
 -- sequence and ten bits more."
 pub record StretchesTellMessagesApart : Type 0 where
+  -- "messages that our writer accepts" there are, of each kind
+  pub some : (kind : Kind) → (octets : List ℕ) × AcceptedMessage kind octets
   -- "If the stretches are equal, the messages are equal, in kind and in every octet."
   pub apart : (kind kind′ : Kind) (octets octets′ : List ℕ) (cut cut′ n : ℕ) → AcceptedMessage kind octets → AcceptedMessage kind′ octets′
       → Long (sequence kind octets) n → Long (sequence kind′ octets′) n
@@ -28,8 +30,9 @@ pub record StretchesTellMessagesApart : Type 0 where
 
 -- what is written is read
 pub record CopiesAreReadBack : Type 0 where
-  -- copies, with ten 1s behind them: a fresh reader reports the message, once for each copy, and nothing else
-  pub copied : (kind : Kind) (octets : List ℕ) (n : ℕ) → AcceptedMessage kind octets → reports fresh (copies n (sequence kind octets) ++ tenOnes) ≡ replicate n (message kind octets)
+  -- copies, with ten 1s behind them: a fresh reader reports the message, once for each copy, and nothing else; a menu is agreed from the
+  -- second copy on
+  pub copied : (kind : Kind) (octets : List ℕ) (n : ℕ) → AcceptedMessage kind octets → reports fresh (copies n (sequence kind octets) ++ tenOnes) ≡ repeated kind octets n
   -- and so it does on the bits that the writer says it wrote, in the buffer that it was lent
   pub buffered : (kind : Kind) (octets : List ℕ) (n : ℕ) (out : List ℕ) (size : ℕ) → octetsAll octets ≡ true → written kind octets n out .answer ≡ count size
-      → reports fresh (take size (written kind octets n out .buffer) ++ tenOnes) ≡ replicate n (message kind octets)
+      → reports fresh (take size (written kind octets n out .buffer) ++ tenOnes) ≡ repeated kind octets n

@@ -23,13 +23,14 @@ use Rattle.sequences.specs.Writing.{written}
 use Rattle.listening.specs.declared.Listener.{Listener}
 use Rattle.listening.specs.Record.{empty, fresh}
 use Rattle.stretches.specs.Stretch.{octetsAll, AcceptedMessage, Nowhere}
-use Rattle.stretches.specs.Hearing.{Report, message, reports}
+use Rattle.stretches.specs.Hearing.{Report, message, reports, repeated}
 use Rattle.stretches.proofs.Each.{Each, none, more, each-append, Bits}
 use Rattle.stretches.proofs.Standing.{nowhere-left}
 use Rattle.octets.proofs.Lists.{before-none}
 use Rattle.stretches.proofs.Sound.{Sound, accepted-sound, accepted-length}
 use Rattle.stretches.proofs.Words.{no-cj}
 use Rattle.stretches.proofs.Plain.{plain, after, fresh-plain}
+use Rattle.stretches.proofs.Flags.{by-messages, flagged-repeated}
 use Rattle.stretches.proofs.Sequences.{Goes, goes-on, here, Idle, Primed, Held, ones-bits, sync-bits, framed-bits, ones-idle, ones-held, idle-sequence, held-sequence}
 
 pub fresh-idle : Idle fresh
@@ -68,15 +69,15 @@ module _ (kind : Kind) (octets : List ℕ) (accepted : AcceptedMessage kind octe
   pub first-copy : (rec : Listener) → Idle rec → Goes rec line [] (Held kind octets)
   first-copy = idle-sequence kind octets sound room
 
-  pub later-copies : (n : ℕ) (rec : Listener) → Held kind octets rec → Goes rec (copies n line) (replicate n (message kind octets)) (Held kind octets)
+  pub later-copies : (n : ℕ) (rec : Listener) → Held kind octets rec → Goes rec (copies n line) (replicate n (message kind octets false)) (Held kind octets)
   unfolding copies plain after
   later-copies zero rec held = record { tells = refl; leaves = held }
   later-copies (suc n) rec held = goes-on (held-sequence kind octets sound room kind octets rec held) (later-copies n)
 
-  all-copies : (n : ℕ) (rec : Listener) → Idle rec → Goes rec (copies n line ++ tenOnes) (replicate n (message kind octets)) Primed
+  all-copies : (n : ℕ) (rec : Listener) → Idle rec → Goes rec (copies n line ++ tenOnes) (replicate n (message kind octets false)) Primed
   unfolding copies
   all-copies zero rec idle = ones-idle rec idle
-  all-copies (suc n) rec idle = rw (← (replicate-more n (message kind octets))) (goes-on (goes-on (first-copy rec idle) (later-copies n)) (ones-held kind octets))
+  all-copies (suc n) rec idle = rw (← (replicate-more n (message kind octets false))) (goes-on (goes-on (first-copy rec idle) (later-copies n)) (ones-held kind octets))
 
   -- the ten 1s behind the copies open one more
   no-cj-behind : (n : ℕ) → Nowhere cj (copies n line ++ tenOnes)
@@ -85,8 +86,10 @@ module _ (kind : Kind) (octets : List ℕ) (accepted : AcceptedMessage kind octe
       let one-more : copies (n + 1) line ≡ copies n line ++ tenOnes ++ (sync kind ++ framedAll octets) = copies-more n line ∙ simp append-assoc in
       nowhere-left cj (copies n line ++ tenOnes) (sync kind ++ framedAll octets) (subst (Nowhere cj) one-more (no-cj kind octets sound (n + 1)))
 
-  pub copies-read : (n : ℕ) → reports fresh (copies n (sequence kind octets) ++ tenOnes) ≡ replicate n (message kind octets)
-  copies-read n = fresh-plain (copies n line ++ tenOnes) (each-append (copies-bits n) ones-bits) (no-cj-behind n) ∙ all-copies n fresh fresh-idle .tells
+  pub copies-read : (n : ℕ) → reports fresh (copies n (sequence kind octets) ++ tenOnes) ≡ repeated kind octets n
+  copies-read n =
+      by-messages (copies n line ++ tenOnes) (replicate n (message kind octets false)) (fresh-plain (copies n line ++ tenOnes) (each-append (copies-bits n) ones-bits) (no-cj-behind n) ∙ all-copies n fresh fresh-idle .tells)
+      ∙ flagged-repeated kind octets accepted n
 
 -- where the writer says how many bits it wrote, these stand at the front of its buffer
 abbrev laidDown : Bool → ℕ → List ℕ → List ℕ → WriteOutcome
@@ -98,7 +101,7 @@ by-fault f line out size true e = (refl, take-at line (drop (length line) out) s
 by-fault f line out size false e = let z : _≡_ {A = ℕ} 0 1 = cc in absurd (let w : ⊥ = omega arith in w)
 
 pub buffer-read : (kind : Kind) (octets : List ℕ) (n : ℕ) (out : List ℕ) (size : ℕ) → octetsAll octets ≡ true → written kind octets n out .answer ≡ count size
-    → reports fresh (take size (written kind octets n out .buffer) ++ tenOnes) ≡ replicate n (message kind octets)
+    → reports fresh (take size (written kind octets n out .buffer) ++ tenOnes) ≡ repeated kind octets n
 unfolding put
 buffer-read kind octets n out size small e =
     let line = copies n (sequence kind octets) in

@@ -5,6 +5,7 @@ pub mod Words
 pub mod Past
 pub mod Plain
 pub mod Sequences
+pub mod Flags
 pub mod Copies
 pub mod Hunting
 pub mod Cuts

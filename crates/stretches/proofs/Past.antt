@@ -15,6 +15,7 @@ use Rattle.framing.specs.Framing.{pushed, lastTen}
 use Rattle.framing.proofs.Words.{hearing}
 use Rattle.framing.specs.Framing.{value}
 use Rattle.leaps.proofs.Spans.{hearing-number}
+use Rattle.stretches.specs.Stretch.{Ends}
 use Rattle.stretches.proofs.Each.{none, more, Bits}
 
 -- a past is a number of 32 bits
@@ -81,10 +82,6 @@ behind : (n x : ℕ) (heard : List ℕ) → n ≤ length heard → drop (length 
 behind n x heard h =
     let split : length heard ≡ length (lows n x) + (length heard - n) = omega (arith, lows-length n x) in
     ap (λ (size : ℕ). drop size (lows n x ++ heard)) split ∙ drop-append-add (lows n x) heard (length heard - n)
-
--- the bits that end in this word
-abbrev pub Ends : List ℕ → List ℕ → Type 0
-Ends word heard = (before : List ℕ) × (before ++ word ≡ heard)
 
 ends : (n : ℕ) (word heard : List ℕ) → drop (length heard - n) heard ≡ word → Ends word heard
 ends n word heard e = (take (length heard - n) heard, ap (λ (l : List ℕ). take (length heard - n) heard ++ l) (sym e) ∙ take-append-drop (length heard - n) heard)

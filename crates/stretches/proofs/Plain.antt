@@ -1,4 +1,4 @@
--- A reader of bits in which CJ stands nowhere: its reports are those of a reader that does not listen for CJ. Invariant: `Since`, its past
+-- A reader of bits in which CJ stands nowhere: its reports, but for which menus are agreed, are those of a reader that does not listen for CJ. Invariant: `Since`, its past
 -- holds the bits so far, so where the test for CJ holds they end in CJ.
 -- Assumes nothing.
 use Prim.Native.Nat.{ℕ, _<_, _≤_, _+_, _/_}
@@ -11,7 +11,7 @@ use lib.Dec.{ltb, lit≤}
 use lib.ListN.{length, length-append}
 use Rattle.laws.specs.Logic.{when}
 use Rattle.laws.proofs.Logic.{either-way, both-true}
-use Rattle.sequences.specs.Line.{cj}
+use Rattle.sequences.specs.Line.{cj as cjBits}
 use Rattle.listening.specs.declared.Message.{Message}
 use Rattle.listening.specs.declared.Listener.{Listener}
 use Rattle.framing.specs.Framing.{pushed, more, isCj, placed, turnedTo, turned}
@@ -21,7 +21,7 @@ use Rattle.listening.specs.Record.{inRange, fresh}
 use Rattle.framing.proofs.Words.{hearing}
 use Rattle.listening.proofs.Ranges.{fits-range, fresh-fits, heard-range, heard-inside}
 use Rattle.stretches.specs.Stretch.{Nowhere}
-use Rattle.stretches.specs.Hearing.{Report, noted, reports}
+use Rattle.stretches.specs.Hearing.{Report, message, cj, refusal, noted, reports}
 use Rattle.stretches.proofs.Each.{none, more as also, each-append, Bits}
 use Rattle.stretches.proofs.Past.{hearing-append, cj-heard}
 
@@ -31,10 +31,32 @@ plainly rec bit =
     let past = pushed (rec .ear .past) bit in
     acted rec (turnedTo past (more (rec .ear .heard)) (placed (rec .ear .place) (rec .ear .past) past (rec .msg .len) bit))
 
--- the reports on bits, and the record behind them
+-- reports of which none says that its menu is agreed
+abbrev unflagged : Told → Told
+unflagged silence = silence
+unflagged ci = ci
+unflagged (menu agreed) = menu false
+unflagged telling.cj = telling.cj
+unflagged (telling.refusal n) = telling.refusal n
+
+unfoldable pub bare : List Report → List Report
+bare [] = []
+bare (message kind octets flag ∷ later) = message kind octets false ∷ bare later
+bare (cj ∷ later) = cj ∷ bare later
+bare (refusal n ∷ later) = refusal n ∷ bare later
+
+bare-noted : (told : Told) (m : Message) (later : List Report) → bare (noted told m later) ≡ noted (unflagged told) m (bare later)
+unfolding bare
+bare-noted silence m later = refl
+bare-noted ci m later = refl
+bare-noted (menu agreed) m later = refl
+bare-noted telling.cj m later = refl
+bare-noted (telling.refusal n) m later = refl
+
+-- such reports on bits, and the record behind them
 unfoldable pub plain : Listener → List ℕ → List Report
 plain rec [] = []
-plain rec (bit ∷ bits) = noted (plainly rec bit .report) (plainly rec bit .rec .msg) (plain (plainly rec bit .rec) bits)
+plain rec (bit ∷ bits) = noted (unflagged (plainly rec bit .report)) (plainly rec bit .rec .msg) (plain (plainly rec bit .rec) bits)
 
 unfoldable pub after : Listener → List ℕ → Listener
 after rec [] = rec
@@ -51,15 +73,15 @@ pub plain-append : (rec : Listener) (a b : List ℕ) → plain rec (a ++ b) ≡ 
 unfolding plain after
 plain-append rec [] b = refl
 plain-append rec (bit ∷ a) b =
-    ap (noted (plainly rec bit .report) (plainly rec bit .rec .msg)) (plain-append (plainly rec bit .rec) a b)
-    ∙ noted-append (plainly rec bit .report) (plainly rec bit .rec .msg) (plain (plainly rec bit .rec) a) (plain (after (plainly rec bit .rec) a) b)
+    ap (noted (unflagged (plainly rec bit .report)) (plainly rec bit .rec .msg)) (plain-append (plainly rec bit .rec) a b)
+    ∙ noted-append (unflagged (plainly rec bit .report)) (plainly rec bit .rec .msg) (plain (plainly rec bit .rec) a) (plain (after (plainly rec bit .rec) a) b)
 
 pub after-append : (rec : Listener) (a b : List ℕ) → after rec (a ++ b) ≡ after (after rec a) b
 unfolding after
 after-append rec [] b = refl
 after-append rec (bit ∷ a) b = after-append (plainly rec bit .rec) a b
 
--- what a reader has heardBit since it was fresh
+-- what a reader has heard since it was fresh
 pub record Since (sofar : List ℕ) (rec : Listener) : Type 0 where
   pub range : inRange rec ≡ true
   pub past : rec .ear .past ≡ hearing 0 sofar
@@ -69,7 +91,7 @@ more-one : (n : ℕ) → more n ≤ n + 1
 unfolding more
 more-one n = either-way (λ (k : ℕ). k ≤ n + 1) (ltb n 30) (n + 1) n (λ _. omega arith) (λ _. omega arith)
 
-module _ (sofar : List ℕ) (rec : Listener) (since : Since sofar rec) (bits-sofar : Bits sofar) (bit : ℕ) (low : bit < 2) (bits : List ℕ) (never : Nowhere cj (sofar ++ bit ∷ bits)) where
+module _ (sofar : List ℕ) (rec : Listener) (since : Since sofar rec) (bits-sofar : Bits sofar) (bit : ℕ) (low : bit < 2) (bits : List ℕ) (never : Nowhere cjBits (sofar ++ bit ∷ bits)) where
   longer : length (sofar ++ bit ∷ []) ≡ length sofar + 1
   longer = length-append sofar (bit ∷ [])
 
@@ -103,13 +125,14 @@ module _ (sofar : List ℕ) (rec : Listener) (since : Since sofar rec) (bits-sof
     count = omega (arith, more-one (rec .ear .heard), longer);
   }
 
-reports-plain : (bits sofar : List ℕ) (rec : Listener) → Since sofar rec → Bits sofar → Bits bits → Nowhere cj (sofar ++ bits) → reports rec bits ≡ plain rec bits
-unfolding reports plain
+reports-plain : (bits sofar : List ℕ) (rec : Listener) → Since sofar rec → Bits sofar → Bits bits → Nowhere cjBits (sofar ++ bits) → bare (reports rec bits) ≡ plain rec bits
+unfolding reports plain bare
 reports-plain [] sofar rec since bits-sofar none never = refl
 reports-plain (bit ∷ bits) sofar rec since bits-sofar (also low lows) never =
-    ap (λ (o : HearOutcome). noted (o .report) (o .rec .msg) (reports (o .rec) bits)) (heard-plainly sofar rec since bits-sofar bit low bits never)
-    ∙ ap (noted (plainly rec bit .report) (plainly rec bit .rec .msg))
+    bare-noted (heardBit rec bit .report) (heardBit rec bit .rec .msg) (reports (heardBit rec bit .rec) bits)
+    ∙ ap (λ (o : HearOutcome). noted (unflagged (o .report)) (o .rec .msg) (bare (reports (o .rec) bits))) (heard-plainly sofar rec since bits-sofar bit low bits never)
+    ∙ ap (noted (unflagged (plainly rec bit .report)) (plainly rec bit .rec .msg))
     (reports-plain bits (sofar ++ bit ∷ []) (plainly rec bit .rec) (since-on sofar rec since bits-sofar bit low bits never) (each-append bits-sofar (also low none)) lows (rw append-assoc never))
 
-pub fresh-plain : (bits : List ℕ) → Bits bits → Nowhere cj bits → reports fresh bits ≡ plain fresh bits
+pub fresh-plain : (bits : List ℕ) → Bits bits → Nowhere cjBits bits → bare (reports fresh bits) ≡ plain fresh bits
 fresh-plain bits lows never = reports-plain bits [] fresh (record { range = fits-range fresh fresh-fits; past = refl; count = lit≤ tt }) none lows never

@@ -4,6 +4,7 @@
 use Prim.Native.Nat.{ℕ, zero, suc, _<_, _≤_, _+_, _*_, _-_}
 use native.Mathlib.Omega.{arith}
 use mathlib.Core.Path.{_≡_, refl, sym, ap, _∙_}
+use mathlib.Core.Bool.{false}
 use mathlib.Core.List.{List, [], _∷_, _++_, append-assoc}
 use lib.ListN.{length, take, drop, replicate, length-append, length-drop, take-append-drop}
 use lib.Seq.{take-append-add}
@@ -12,12 +13,13 @@ use Rattle.sequences.specs.Line.{framedAll, tenOnes, sync, sequence, copies, cj
 use Rattle.sequences.proofs.Lines.{sequence-length}
 use Rattle.listening.specs.Record.{fresh}
 use Rattle.stretches.specs.Stretch.{AcceptedMessage, stretch, Long, Nowhere, flag}
-use Rattle.stretches.specs.Hearing.{Report, message, Reads}
+use Rattle.stretches.specs.Hearing.{Report, message, repeated, Reads}
 use Rattle.stretches.proofs.Each.{Each, each-drop, each-take}
 use Rattle.stretches.proofs.Standing.{nowhere-take, nowhere-drop}
 use Rattle.stretches.proofs.Sound.{Sound, accepted-sound}
 use Rattle.stretches.proofs.Words.{start, no-flag, no-cj, no-start}
 use Rattle.stretches.proofs.Plain.{plain, after, plain-append, fresh-plain}
+use Rattle.stretches.proofs.Flags.{by-messages, flagged-repeated}
 use Rattle.stretches.proofs.Sequences.{Goes, goes-on, Idle, Held, ones-held}
 use Rattle.stretches.proofs.Copies.{copies-bits, line-bits, first-copy, later-copies}
 use Rattle.stretches.proofs.Hunting.{fresh-hunts}
@@ -37,7 +39,7 @@ module _ (kind : Kind) (octets : List ℕ) (accepted : AcceptedMessage kind octe
   line = sequence kind octets
 
   abbrev told : Report
-  told = message kind octets
+  told = message kind octets false
 
   sound : Each Sound octets
   sound = accepted-sound kind octets accepted
@@ -118,7 +120,7 @@ module _ (kind : Kind) (octets : List ℕ) (accepted : AcceptedMessage kind octe
       let bits = each-take n (drop cut all) (each-drop cut all (copies-bits kind octets accepted (cut + n))) in
       let never = nowhere-take cj n (drop cut all) (nowhere-drop cj cut all (no-cj kind octets sound (cut + n))) in
       let tells = stretch-told cut n long in
-      record { again = tells .0; all = fresh-plain (stretch line cut n) bits never ∙ tells .1 }
+      record { again = tells .0; all = by-messages (stretch line cut n) (replicate (suc (tells .0)) told) (fresh-plain (stretch line cut n) bits never ∙ tells .1) ∙ flagged-repeated kind octets accepted (suc (tells .0)) }
 
   pub flag-nowhere : (cut n : ℕ) → Nowhere flag (stretch (sequence kind octets) cut n)
   flag-nowhere cut n =
@@ -128,5 +130,5 @@ module _ (kind : Kind) (octets : List ℕ) (accepted : AcceptedMessage kind octe
 -- the same bits are read as one message
 pub read-as-one : (kind kind′ : Kind) (octets octets′ bits : List ℕ) → Reads kind octets bits → Reads kind′ octets′ bits → (kind ≡ kind′) × (octets ≡ octets′)
 read-as-one kind kind′ octets octets′ bits read read′ =
-    let same : replicate (suc (read .again)) (message kind octets) ≡ replicate (suc (read′ .again)) (message kind′ octets′) = sym (read .all) ∙ read′ .all in
+    let same : repeated kind octets (suc (read .again)) ≡ repeated kind′ octets′ (suc (read′ .again)) = sym (read .all) ∙ read′ .all in
     (cc, cc)

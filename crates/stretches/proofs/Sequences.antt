@@ -65,7 +65,7 @@ ones-hunting : (past : ℕ) (msg : Message) {rec : Listener} → At 0 past msg r
 unfolding plain after acted placed hunted told toldAlone changed when both
 ones-hunting past msg (here heard last) = record { tells = refl; leaves = here _ _ }
 
-ones-ending : (kind : Kind) (past len : ℕ) (array : List ℕ) {rec : Listener} → At 10 past (holding kind len array) rec → Goes rec tenOnes (message kind (take len array) ∷ []) (At 0 (hearing past tenOnes) (holding kind len array))
+ones-ending : (kind : Kind) (past len : ℕ) (array : List ℕ) {rec : Listener} → At 10 past (holding kind len array) rec → Goes rec tenOnes (message kind (take len array) false ∷ []) (At 0 (hearing past tenOnes) (holding kind len array))
 unfolding plain after acted placed bounded ended told toldAlone reported changed when both
 ones-ending Ci past len array (here heard last) = record { tells = refl; leaves = here _ _ }
 ones-ending Menu past len array (here heard last) = record { tells = refl; leaves = here _ _ }
@@ -181,7 +181,7 @@ prime past msg small full rec place = record {
 pub ones-idle : (rec : Listener) → Idle rec → Goes rec tenOnes [] Primed
 ones-idle rec idle = goes-with (ones-hunting (idle .past) (idle .msg) (idle .place)) (prime (idle .past) (idle .msg) (idle .small) (idle .full))
 
-pub ones-held : (kind : Kind) (octets : List ℕ) (rec : Listener) → Held kind octets rec → Goes rec tenOnes (message kind octets ∷ []) Primed
+pub ones-held : (kind : Kind) (octets : List ℕ) (rec : Listener) → Held kind octets rec → Goes rec tenOnes (message kind octets false ∷ []) Primed
 ones-held kind octets rec held = rw (← (held .stored)) (goes-with (ones-ending kind (held .past) (held .len) (held .array) (held .place)) (prime (held .past) (holding kind (held .len) (held .array)) (held .small) (held .full)))
 
 sync-whole : (kind : Kind) → (0 ∷ []) ++ between kind ++ (1 ∷ []) ≡ sync kind
@@ -234,5 +234,5 @@ module _ (kind : Kind) (octets : List ℕ) (sound : Each Sound octets) (room : l
   pub idle-sequence : (rec : Listener) → Idle rec → Goes rec (sequence kind octets) [] (Held kind octets)
   idle-sequence rec idle = behind-ones (ones-idle rec idle)
 
-  pub held-sequence : (kind′ : Kind) (octets′ : List ℕ) (rec : Listener) → Held kind′ octets′ rec → Goes rec (sequence kind octets) (message kind′ octets′ ∷ []) (Held kind octets)
+  pub held-sequence : (kind′ : Kind) (octets′ : List ℕ) (rec : Listener) → Held kind′ octets′ rec → Goes rec (sequence kind octets) (message kind′ octets′ false ∷ []) (Held kind octets)
   held-sequence kind′ octets′ rec held = behind-ones (ones-held kind′ octets′ rec held)

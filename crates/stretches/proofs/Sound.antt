@@ -5,7 +5,7 @@ use native.Mathlib.Omega.{arith}
 use mathlib.Core.Path.{_≡_, refl}
 use mathlib.Core.Bool.{Bool, true, false, not}
 use mathlib.Core.List.{List, [], _∷_}
-use borrow.Author.Tests.{ltb-true, not-true, eq-eqb}
+use borrow.Author.Tests.{ltb-true, le-ltb, not-true, eq-eqb}
 use lib.Dec.{T, eqb, ltb}
 use lib.ListN.{length, drop}
 use Rattle.laws.specs.Logic.{when, both, either}
@@ -15,9 +15,9 @@ use Rattle.laws.proofs.Computed.{below}
 use Rattle.octets.specs.declared.Kind.{Kind}
 use Rattle.octets.specs.declared.Kind.the-variants.{Ci, Menu}
 use Rattle.octets.specs.declared.Purpose.{Purpose}
-use Rattle.octets.specs.declared.Purpose.the-variants.{Writing}
-use Rattle.octets.specs.Octets.{bad}
-use Rattle.octets.specs.Lists.{octetFault, firstFault, opens}
+use Rattle.octets.specs.declared.Purpose.the-variants.{Reading, Writing}
+use Rattle.octets.specs.Octets.{bad, category, tag}
+use Rattle.octets.specs.Lists.{categoryFault, octetFault, firstFault, opens, listFault}
 use Rattle.octets.proofs.Lists.{accepted-short, before-none}
 use Rattle.stretches.specs.Stretch.{octetsAll, AcceptedMessage}
 use Rattle.stretches.proofs.Each.{Each, none, more}
@@ -89,3 +89,26 @@ accepted-sound kind (b ∷ bs) a =
 
 pub accepted-length : (kind : Kind) (octets : List ℕ) → AcceptedMessage kind octets → length octets ≤ 64
 accepted-length kind octets a = accepted-short (Writing kind) octets (a .taken)
+
+-- and it can be read: what the writer refuses beside what reading does is 12
+octet-readable : (kind : Kind) (b : ℕ) → octetFault (Writing kind) b ≡ 0 → octetFault Reading b ≡ 0
+unfolding when
+octet-readable kind b e = by-tests-of (bad b) (category b) (categoryFault (Writing kind) (tag b)) e
+  where
+    by-tests-of : (is-bad is-category : Bool) (fault : ℕ) → when {A = ℕ} is-bad 3 (when is-category fault 0) ≡ 0 → when {A = ℕ} is-bad 3 (when is-category 0 0) ≡ 0
+    by-tests-of true is-category fault none-told = none-told
+    by-tests-of false true fault none-told = refl
+    by-tests-of false false fault none-told = refl
+
+laters-readable : (kind : Kind) (bs : List ℕ) → firstFault (Writing kind) bs ≡ 0 → firstFault Reading bs ≡ 0
+unfolding firstFault when
+laters-readable kind [] e = refl
+laters-readable kind (b ∷ bs) e =
+    let fine = before-none (octetFault (Writing kind) b) (firstFault (Writing kind) bs) e in
+    simp (octet-readable kind b (fine .0)) (laters-readable kind bs (fine .1))
+
+pub accepted-readable : (kind : Kind) (octets : List ℕ) → AcceptedMessage kind octets → listFault Reading octets ≡ 0
+unfolding when
+accepted-readable kind octets a =
+    let fine = by-tests (Writing kind) octets (ltb 64 (length octets)) (opens octets) refl (a .taken) in
+    simp (le-ltb 64 (length octets) (accepted-length kind octets a), fine .0) (laters-readable kind (drop 1 octets) (fine .1))

@@ -1,27 +1,36 @@
 -- What a reader reports while it hears bits, one after the other.
-use Prim.Native.Nat.{ℕ, suc}
+use Prim.Native.Nat.{ℕ, zero, suc}
 use mathlib.Core.Path.{_≡_}
+use mathlib.Core.Bool.{Bool, true, false}
 use mathlib.Core.List.{List, [], _∷_}
 use lib.ListN.{replicate}
+use Rattle.laws.specs.Logic.{both}
+use Rattle.laws.specs.Tests.{sameList}
 use Rattle.octets.specs.declared.Kind.{Kind}
 use Rattle.octets.specs.declared.Kind.the-variants.{Ci, Menu}
+use Rattle.octets.specs.Lists.{readable}
 use Rattle.listening.specs.declared.Message.{Message}
 use Rattle.listening.specs.declared.Listener.{Listener}
 use Rattle.listening.specs.Hearing as hearing
 use Rattle.listening.specs.Hearing.{Told, silence, ci, menu, octetsOf, heardBit}
 use Rattle.listening.specs.Record.{fresh}
 
--- a report: a message, in kind and in every octet; CJ; or a refusal's number
+-- the record once bits are heard
+unfoldable pub onceHeard : Listener → List ℕ → Listener
+onceHeard rec [] = rec
+onceHeard rec (bit ∷ bits) = onceHeard (heardBit rec bit .rec) bits
+
+-- a report: a message, in kind and in every octet, and whether it is an agreed menu; CJ; or a refusal's number
 pub data Report : Type 0 where
-  message : Kind → List ℕ → Report
+  message : Kind → List ℕ → Bool → Report
   cj : Report
   refusal : ℕ → Report
 
 -- what a bit tells, with the octets that stand readable then, in front of the later reports
 abbrev pub noted : Told → Message → List Report → List Report
 noted silence m later = later
-noted ci m later = message Ci (octetsOf m) ∷ later
-noted (menu agreed) m later = message Menu (octetsOf m) ∷ later
+noted ci m later = message Ci (octetsOf m) false ∷ later
+noted (menu agreed) m later = message Menu (octetsOf m) agreed ∷ later
 noted hearing.cj m later = cj ∷ later
 noted (hearing.refusal n) m later = refusal n ∷ later
 
@@ -30,7 +39,35 @@ unfoldable pub reports : Listener → List ℕ → List Report
 reports rec [] = []
 reports rec (bit ∷ bits) = noted (heardBit rec bit .report) (heardBit rec bit .rec .msg) (reports (heardBit rec bit .rec) bits)
 
+-- the message that was reported last, if there is one
+pub data Earlier : Type 0 where
+  nothing : Earlier
+  earlier : Kind → List ℕ → Earlier
+
+-- "A menu is agreed when reading it gives no refusal and it equals, in kind and in every octet, the message reported just before it on that line"
+abbrev pub agrees : Earlier → Kind → List ℕ → Bool
+agrees before Ci octets = false
+agrees nothing Menu octets = false
+agrees (earlier Ci octets′) Menu octets = false
+agrees (earlier Menu octets′) Menu octets = both (readable octets) (sameList octets octets′)
+
+-- reports, each menu agreed or not by the message before it: "refusals and CJ between them don't matter, a CI between them does"
+unfoldable pub flagged : Earlier → List Report → List Report
+flagged before [] = []
+flagged before (message kind octets flag ∷ later) = message kind octets (agrees before kind octets) ∷ flagged (earlier kind octets) later
+flagged before (cj ∷ later) = cj ∷ flagged before later
+flagged before (refusal n ∷ later) = refusal n ∷ flagged before later
+
+-- a message so many times and nothing else: a menu is agreed from the second time on
+abbrev pub agreesAgain : Kind → Bool
+agreesAgain Ci = false
+agreesAgain Menu = true
+
+abbrev pub repeated : Kind → List ℕ → ℕ → List Report
+repeated kind octets zero = []
+repeated kind octets (suc n) = message kind octets false ∷ replicate n (message kind octets (agreesAgain kind))
+
 -- a fresh reader "reports that message first", perhaps again, and nothing else: no other message, "no refusal or CJ"
 pub record Reads (kind : Kind) (octets bits : List ℕ) : Type 0 where
   pub again : ℕ
-  pub all : reports fresh bits ≡ replicate (suc again) (message kind octets)
+  pub all : reports fresh bits ≡ repeated kind octets (suc again)

@@ -33,6 +33,14 @@ pub record Endless (line : List ℕ) (cut n : ℕ) : Type 0 where
 abbrev pub Long : List ℕ → ℕ → Type 0
 Long line n = 2 * length line + 10 ≤ n
 
+-- every entry is a bit
+abbrev pub bitsAll : List ℕ → Bool
+bitsAll bits = every (λ (b : ℕ). ltb b 2) bits
+
+-- bits whose last ones are this word
+abbrev pub Ends : List ℕ → List ℕ → Type 0
+Ends word bits = (before : List ℕ) × (before ++ word ≡ bits)
+
 -- "stands nowhere in it": bits that do not hold a word
 abbrev pub Nowhere : List ℕ → List ℕ → Type 0
 Nowhere word bits = (before after : List ℕ) → before ++ word ++ after ≡ bits → ⊥
