@@ -3,9 +3,9 @@
 use Prim.Native.Nat.{ℕ, _<_, _≤_, _+_}
 use native.Mathlib.Omega.{arith}
 use mathlib.Core.Path.{_≡_, refl}
-use mathlib.Core.Bool.{true, false}
+use mathlib.Core.Bool.{true, false, not}
 use borrow.Author.Tests.{eqb-true, eqb-false, ltb-true, ltb-false}
-use lib.Dec.{eqb, ltb}
+use lib.Dec.{T, eqb, ltb}
 use Rattle.laws.specs.Logic.{when, both}
 use Rattle.laws.proofs.Logic.{either-way, both-true}
 use Rattle.octets.specs.declared.Kind.{Kind}
@@ -75,6 +75,34 @@ module _ (place before past len bit : ℕ) where
       (λ inside. let not-boundary = eqb-false place boundary inside in either-way P (ltb place stopPosition) _ _ (λ in-octet. inside-octet (omega (arith, high, not-last, not-boundary)) (ltb-true _ _ in-octet))
       (λ past-octet. either-way P (eqb place stopPosition) _ _ (λ at. stopped-as (eqb-true _ _ at))
       (λ in-end. ended-as (omega (arith, ltb-false place stopPosition past-octet, eqb-false place stopPosition in-end))))))))
+
+-- what a bit at its place asks for: a report behind nine 1s, and otherwise neither a report nor CJ
+pub data Asks (place bit act : ℕ) : Type 0 where
+  a-report : lastOfEnding ≤ place → (bit ≡ 0 → ⊥) → act ≡ report → Asks place bit act
+  neither : (act ≡ report → ⊥) → (act ≡ tellCj → ⊥) → Asks place bit act
+
+module _ {place bit : ℕ} where
+  other : (act : ℕ) → T (both (not (eqb act report)) (not (eqb act tellCj))) → Asks place bit act
+  unfolding both
+  other act tested = neither (λ e. rw e at tested) (λ e. rw e at tested)
+
+pub asks : {place before past len bit to act : ℕ} → Places place before past len bit to act → Asks place bit act
+unfolding both
+asks (hunts at) = other nothing tt
+asks (inside-sync some few) = other nothing tt
+asks (accepts Ci at word) = other startCi tt
+asks (accepts Menu at word) = other startMenu tt
+asks (passes-over at not-ci not-menu) = other nothing tt
+asks (opens-octet at is-zero) = other nothing tt
+asks (opens-end at one) = other nothing tt
+asks (inside-octet some few) = other nothing tt
+asks (stop-zero at is-zero) = other (refusalAct 2) tt
+asks (bad-octet at one is-bad) = other (refusalAct 3) tt
+asks (too-many at one full) = other (refusalAct 4) tt
+asks (stores at one fine room) = other store tt
+asks (cut-short some is-zero) = other (refusalAct 13) tt
+asks (inside-end some few one) = other nothing tt
+asks (reports late one) = a-report late one refl
 
 -- hunting, or one bit into a sync
 pub data Hunted (before bit : ℕ) : ℕ → Type 0 where

@@ -24,7 +24,7 @@ use Rattle.listening.specs.declared.Listener.{Listener}
 use Rattle.listening.specs.Record.{empty, fresh}
 use Rattle.stretches.specs.Stretch.{octetsAll, AcceptedMessage, Nowhere}
 use Rattle.stretches.specs.Hearing.{Report, message, reports, repeated}
-use Rattle.stretches.proofs.Each.{Each, none, more, each-append, Bits}
+use Rattle.stretches.proofs.Each.{Each, none, more, each-append, Bits, replicate-more}
 use Rattle.stretches.proofs.Standing.{nowhere-left}
 use Rattle.octets.proofs.Lists.{before-none}
 use Rattle.stretches.proofs.Sound.{Sound, accepted-sound, accepted-length}
@@ -35,11 +35,6 @@ use Rattle.stretches.proofs.Sequences.{Goes, goes-on, here, Idle, Prime
 
 pub fresh-idle : Idle fresh
 fresh-idle = record { past = 0; msg = empty; place = here 0 empty; small = lit< tt; full = refl }
-
--- one more at the end
-replicate-more : (n : ℕ) (r : Report) → replicate n r ++ r ∷ [] ≡ replicate (suc n) r
-replicate-more zero r = refl
-replicate-more (suc n) r = ap (λ (l : List Report). r ∷ l) (replicate-more n r)
 
 module _ (kind : Kind) (octets : List ℕ) (accepted : AcceptedMessage kind octets) where
   sound : Each Sound octets

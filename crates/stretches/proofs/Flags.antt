@@ -28,9 +28,9 @@ use Rattle.listening.proofs.Acts.{heard-not-a-bit}
 use Rattle.listening.proofs.Ranges.{fits-range, fresh-fits, heard-range, heard-inside}
 use Rattle.stretches.specs.Hearing.{Report, message, cj, refusal, noted, reports, Earlier, nothing, earlier, agrees, flagged, agreesAgain, repeated}
 use Rattle.stretches.specs.Stretch.{AcceptedMessage}
+use Rattle.stretches.specs.Heard.{coded}
 use Rattle.stretches.proofs.Sound.{accepted-readable}
 use Rattle.stretches.proofs.Plain.{bare}
-use Rattle.stretches.proofs.Sequences.{coded}
 
 -- the message reported last
 abbrev LastIs : Earlier → Message → Type 0

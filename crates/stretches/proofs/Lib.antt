@@ -6,6 +6,8 @@ pub mod Past
 pub mod Plain
 pub mod Sequences
 pub mod Flags
+pub mod Heard
+pub mod Led
 pub mod Copies
 pub mod Hunting
 pub mod Cuts

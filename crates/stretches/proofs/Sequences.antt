@@ -26,6 +26,7 @@ use Rattle.framing.specs.Framing.{pushed, lastTen, octetOf, go, hunted, synced,
 use Rattle.listening.specs.Hearing.{changed, reported, told, toldAlone, acted}
 use Rattle.framing.proofs.Words.{hearing}
 use Rattle.stretches.specs.Hearing.{Report, message}
+use Rattle.stretches.specs.Heard.{coded}
 use Rattle.stretches.proofs.Each.{Each, none, more, Bits, bits-by}
 use Rattle.stretches.proofs.Sound.{Sound, sound-shape}
 use Rattle.framing.specs.Framing.{value}
@@ -53,10 +54,6 @@ pub data At (place past : ℕ) (msg : Message) : Listener → Type 0 where
   here : (heard : ℕ) (last : Message) → At place past msg (record { ear = record { past = past; heard = heard; place = place }; msg = msg; last = last })
 
 -- a message that is being heard
-abbrev pub coded : Kind → ℕ
-coded Ci = 1
-coded Menu = 2
-
 abbrev pub holding : Kind → ℕ → List ℕ → Message
 holding kind len array = record { kind = coded kind; len = len; octets = array }
 
@@ -139,7 +136,7 @@ sync-number : (kind : Kind) (past : ℕ) → Small past → lastTen (hearing pas
 sync-number Ci past h = ten-heard past (sync Ci) h refl
 sync-number Menu past h = ten-heard past (sync Menu) h refl
 
-framed-value : (b : ℕ) → b < 256 → value (framed b) ≡ 512 + 2 * b
+pub framed-value : (b : ℕ) → b < 256 → value (framed b) ≡ 512 + 2 * b
 unfolding framed both allBelow
 framed-value b h = eqb→eq _ _ (below (λ (n : ℕ). eqb (value (framed n)) (512 + 2 * n)) 256 tt b h)
 

@@ -1,2 +1,3 @@
 pub mod Stretch
 pub mod Hearing
+pub mod Heard

@@ -1,0 +1,235 @@
+-- A record that was fresh stands where the bits that it heard lead: by the cases of one more bit. So a message is reported only behind ten 1s,
+-- its sync, its octets and ten 1s.
+-- Assumes nothing.
+use Prim.Native.Nat.{ℕ, zero, suc, _<_, _≤_, _+_, _*_, _%_, _/_, _^_}
+use native.Mathlib.Numerals.{add-one}
+use native.Mathlib.Nat.{mod-eq-of-lt}
+use native.Mathlib.Omega.{arith}
+use mathlib.Core.Path.{_≡_, refl, sym, ap, ap₂, subst, _∙_}
+use mathlib.Core.Bool.{Bool, true, false}
+use mathlib.Core.List.{List, [], _∷_, _++_, append-assoc, append-nil}
+use lib.Dec.{lit<}
+use lib.ListN.{length, take, set, replicate, length-append, length-set}
+use lib.Seq.{take-suc-set}
+use Rattle.laws.specs.Logic.{when}
+use Rattle.octets.specs.declared.Kind.{Kind}
+use Rattle.octets.specs.declared.Kind.the-variants.{Ci, Menu}
+use Rattle.octets.specs.Octets.{b0, b1, b2, b3, b4, b5, b6, b7}
+use Rattle.sequences.specs.Line.{framed, framedAll, tenOnes, sync, sequence}
+use Rattle.sequences.proofs.Lines.{framed-append}
+use Rattle.framing.specs.Framing.{value, pushed, lastTen, octetOf, hunting, inSync, lastOfSync, boundary, inOctet, stopPosition, endingOnes, lastOfEnding, report, tellCj, hunted}
+use Rattle.framing.proofs.Words.{hearing}
+use Rattle.framing.proofs.Places.{Places, hunts, inside-sync, accepts, passes-over, opens-octet, opens-end, inside-octet, stop-zero, bad-octet, too-many, stores, cut-short, inside-end, reports as reporting, Asks, a-report, neither, asks, Hunted, goes-by, starts, hunted-as, turning, Turns, tells-cj, is-placed, turned-as}
+use Rattle.listening.specs.declared.Listener.{Listener}
+use Rattle.listening.specs.declared.Message.{Message}
+use Rattle.listening.specs.Hearing.{HearOutcome, octetsOf, stored, changed, told, acted, heardBit}
+use Rattle.listening.specs.Record.{inRange, fresh}
+use Rattle.listening.proofs.Ranges.{range-fits}
+use Rattle.stretches.specs.Stretch.{Ends}
+use Rattle.stretches.specs.Hearing.{onceHeard}
+use Rattle.stretches.specs.Heard.{coded, IsOf, Led, syncs, bounds, fills, ends}
+use Rattle.stretches.specs.Heard as led
+use Rattle.stretches.proofs.Each.{Each, none, more as also, each-append, each-left, each-right, Bits, replicate-more}
+use Rattle.stretches.proofs.Past.{Small, hearing-small, hearing-append, ten-heard, ones-heard}
+use Rattle.stretches.proofs.Sequences.{sync-bits, framed-bits, framed-value}
+use Rattle.stretches.proofs.Heard.{Knows, heard-turned, past-on, since-fresh}
+
+-- bits that make the same number are the same
+same-bits : (v w : List ℕ) → Bits v → Bits w → length v ≡ length w → value v ≡ value w → v ≡ w
+same-bits [] [] none none size number = refl
+same-bits [] (y ∷ w) none (also low lows) size number = absurd (omega (arith, size))
+same-bits (x ∷ v) [] (also low lows) none size number = absurd (omega (arith, size))
+same-bits (x ∷ v) (y ∷ w) (also low lows) (also low′ lows′) size number =
+    let first : x ≡ y = omega (arith, number) in
+    ap₂ _∷_ first (same-bits v w lows lows′ (omega (arith, size)) (omega (arith, number, first)))
+
+-- the number of bits with a 1 on top
+twice : (bit : ℕ) (bits : List ℕ) → 2 ^ length (bit ∷ bits) ≡ 2 * 2 ^ length bits
+twice bit bits = let doubled : 2 ^ suc (length bits) ≡ 2 * 2 ^ length bits = omega arith in doubled
+
+value-top : (bits : List ℕ) → value (bits ++ 1 ∷ []) ≡ value bits + 2 ^ length bits
+value-top [] = refl
+value-top (bit ∷ bits) = omega (arith, value-top bits, twice bit bits)
+
+value-low : (bits : List ℕ) → Bits bits → value bits < 2 ^ length bits
+value-low [] none = omega arith
+value-low (bit ∷ bits) (also low lows) = omega (arith, value-low bits lows, twice bit bits)
+
+-- both are ten bits
+sync-length : (kind : Kind) → length (sync kind) ≡ 10
+sync-length Ci = refl
+sync-length Menu = refl
+
+framed-ten : (b : ℕ) → length (framed b) ≡ 10
+unfolding framed
+framed-ten b = refl
+
+-- one octet more
+sequence-more : (kind : Kind) (octets : List ℕ) (b : ℕ) → sequence kind (octets ++ b ∷ []) ≡ sequence kind octets ++ framed b
+unfolding sequence framedAll
+sequence-more kind octets b = ap (λ (l : List ℕ). tenOnes ++ sync kind ++ l) (framed-append octets (b ∷ []) ∙ ap (λ (l : List ℕ). framedAll octets ++ l) (append-nil (framed b))) ∙ sym (append-assoc (tenOnes ++ sync kind) (framedAll octets) (framed b))
+
+-- one bit more at the end
+module _ (bit : ℕ) (bits : List ℕ) where
+  further : (a b : List ℕ) → Ends (a ++ b) bits → Ends (a ++ (b ++ bit ∷ [])) (bits ++ bit ∷ [])
+  further a b e = (e .0, sym (append-assoc (e .0) (a ++ b) (bit ∷ []) ∙ ap (λ (l : List ℕ). e .0 ++ l) (append-assoc a b (bit ∷ []))) ∙ ap (λ (l : List ℕ). l ++ bit ∷ []) (e .1))
+
+  one-further : (a : List ℕ) → Ends a bits → Ends (a ++ bit ∷ []) (bits ++ bit ∷ [])
+  one-further a e = (e .0, sym (append-assoc (e .0) a (bit ∷ [])) ∙ ap (λ (l : List ℕ). l ++ bit ∷ []) (e .1))
+
+-- the number of the last ten bits
+ends-number : (a w bits : List ℕ) → Bits bits → length w ≡ 10 → Ends (a ++ w) bits → (lastTen (hearing 0 bits) ≡ value w) × Bits w
+ends-number a w bits lows ten e =
+    let early = e .0 ++ a in
+    let parted : early ++ w ≡ bits = append-assoc (e .0) a w ∙ e .1 in
+    let early-bits : Bits early = each-left early w (rw parted lows) in
+    (ap (λ (l : List ℕ). lastTen (hearing 0 l)) (sym parted) ∙ ap lastTen (hearing-append 0 early w) ∙ ten-heard (hearing 0 early) w (hearing-small 0 early (lit< tt) early-bits) ten,
+    each-right early w (rw parted lows))
+
+-- what led to each part of the framing
+module _ {R : Type 0} {bits : List ℕ} {m : Message} {place : ℕ} where
+  in-sync : Led bits m place → 0 < place → place < boundary → ((later : List ℕ) → length later < lastOfSync → Ends (tenOnes ++ 0 ∷ later) bits → place ≡ inSync + length later → R) → R
+  in-sync (led.hunts is) some few go = absurd (omega (arith, is))
+  in-sync (syncs later short stands is) some few go = go later short stands is
+  in-sync (bounds kind of stands is) some few go = absurd (omega (arith, is))
+  in-sync (fills kind data′ of short stands is) some few go = absurd (omega (arith, is))
+  in-sync (ends kind n of short stands is) some few go = absurd (omega (arith, is))
+
+  at-boundary : Led bits m place → place ≡ boundary → ((kind : Kind) → IsOf kind m → Ends (sequence kind (octetsOf m)) bits → R) → R
+  at-boundary (led.hunts is) at go = absurd (omega (arith, is, at))
+  at-boundary (syncs later short stands is) at go = absurd (omega (arith, is, at))
+  at-boundary (bounds kind of stands is) at go = go kind of stands
+  at-boundary (fills kind data′ of short stands is) at go = absurd (omega (arith, is, at))
+  at-boundary (ends kind n of short stands is) at go = absurd (omega (arith, is, at))
+
+  in-octet : Led bits m place → boundary < place → place ≤ stopPosition
+      → ((kind : Kind) (data′ : List ℕ) → IsOf kind m → length data′ < 9 → Ends (sequence kind (octetsOf m) ++ 0 ∷ data′) bits → place ≡ inOctet + length data′ → R) → R
+  in-octet (led.hunts is) some few go = absurd (omega (arith, is))
+  in-octet (syncs later short stands is) some few go = absurd (omega (arith, is))
+  in-octet (bounds kind of stands is) some few go = absurd (omega (arith, is))
+  in-octet (fills kind data′ of short stands is) some few go = go kind data′ of short stands is
+  in-octet (ends kind n of short stands is) some few go = absurd (omega (arith, is))
+
+  in-end : Led bits m place → stopPosition < place → ((kind : Kind) (n : ℕ) → IsOf kind m → n < 9 → Ends (sequence kind (octetsOf m) ++ 1 ∷ replicate n 1) bits → place ≡ endingOnes + n → R) → R
+  in-end (led.hunts is) some go = absurd (omega (arith, is))
+  in-end (syncs later short stands is) some go = absurd (omega (arith, is))
+  in-end (bounds kind of stands is) some go = absurd (omega (arith, is))
+  in-end (fills kind data′ of short stands is) some go = absurd (omega (arith, is))
+  in-end (ends kind n of short stands is) some go = go kind n of short stands is
+
+-- one bit more
+module _ (sofar : List ℕ) (rec : Listener) (bits-sofar : Bits sofar) (knows : Knows sofar rec) (led-there : Led sofar (rec .msg) (rec .ear .place)) (full : length (rec .msg .octets) ≡ 64) (bit : ℕ) (low : bit < 2) where
+  abbrev heard : List ℕ
+  heard = sofar ++ bit ∷ []
+
+  abbrev past : ℕ
+  past = pushed (rec .ear .past) bit
+
+  whole : Bits heard
+  whole = each-append bits-sofar (also low none)
+
+  is-one : (bit ≡ 0 → ⊥) → bit ≡ 1
+  is-one not-zero = omega (arith, not-zero)
+
+  -- "A 0 whose ten preceding heard bits are all 1 starts a sync."
+  by-hunted : (m : Message) {to : ℕ} → Hunted (rec .ear .past) bit to → Led heard m to
+  by-hunted m goes-by = led.hunts refl
+  by-hunted m (starts is-zero word) =
+      let ones = ones-heard sofar bits-sofar (ap lastTen (sym (knows .past)) ∙ word) in
+      syncs [] (lit< tt) (rw is-zero (one-further 0 sofar tenOnes ones)) refl
+
+  -- the ten bits of a frame, or of a sync
+  ten-there : (a w : List ℕ) → length w ≡ 10 → Ends (a ++ w) heard → (lastTen past ≡ value w) × Bits w
+  ten-there a w ten e = let number = ends-number a w heard whole ten e in (ap lastTen (past-on sofar rec knows bit low) ∙ number .0, number .1)
+
+  accepted : (kind : Kind) → rec .ear .place ≡ lastOfSync → lastTen past ≡ value (sync kind) → Led heard (record { kind = coded kind; len = 0; octets = rec .msg .octets }) boundary
+  unfolding sequence framedAll
+  accepted kind at word =
+      in-sync led-there (omega (arith, at)) (omega (arith, at))
+      (λ later short stands is.
+      let w = 0 ∷ (later ++ bit ∷ []) in
+      let there : Ends (tenOnes ++ w) heard = further bit sofar tenOnes (0 ∷ later) stands in
+      let ten : length w ≡ 10 = omega (arith, length-append later (bit ∷ []), is, at) in
+      let number = ten-there tenOnes w ten there in
+      let is-sync : w ≡ sync kind = same-bits w (sync kind) (number .1) (sync-bits kind) (ten ∙ sym (sync-length kind)) (sym (number .0) ∙ word) in
+      bounds kind refl (rw append-nil (rw (← is-sync) there)) refl)
+
+  filled : rec .ear .place ≡ stopPosition → (bit ≡ 0 → ⊥) → (rec .msg .len ≡ 64 → ⊥) → Led heard (stored (rec .msg) (octetOf past)) boundary
+  filled at one room =
+      in-octet led-there (omega (arith, at)) (omega (arith, at))
+      (λ kind data′ of short stands is.
+      let o = octetOf past in
+      let m = rec .msg in
+      let w = 0 ∷ (data′ ++ 1 ∷ []) in
+      let eight : length data′ ≡ 8 = omega (arith, is, at) in
+      let there : Ends (sequence kind (octetsOf m) ++ w) heard = rw (is-one one) (further 1 sofar (sequence kind (octetsOf m)) (0 ∷ data′) stands) in
+      let ten : length w ≡ 10 = omega (arith, length-append data′ (1 ∷ []), eight) in
+      let number = ten-there (sequence kind (octetsOf m)) w ten there in
+      let data-bits : Bits data′ = each-left data′ (1 ∷ []) (each-right (0 ∷ []) (data′ ++ 1 ∷ []) (number .1)) in
+      let top : value (data′ ++ 1 ∷ []) ≡ value data′ + 256 = value-top data′ ∙ ap (λ (n : ℕ). value data′ + 2 ^ n) eight in
+      let small : value data′ < 256 = subst (λ (n : ℕ). value data′ < 2 ^ n) eight (value-low data′ data-bits) in
+      let is-data : o ≡ value data′ = omega (arith, number .0, top, small) in
+      let low-octet : o < 256 = omega (arith, is-data, small) in
+      let frame : framed o ≡ w = same-bits (framed o) w (framed-bits o low-octet) (number .1) (framed-ten o ∙ sym ten) (framed-value o low-octet ∙ omega (arith, is-data, top)) in
+      let len : m .len < 64 = omega (arith, range-fits rec (knows .range) .msg .len, room) in
+      let added : octetsOf (stored m o) ≡ octetsOf m ++ o ∷ [] =
+      ap (λ (n : ℕ). take (n + 1) (set (m .octets) n o)) (mod-eq-of-lt len) ∙ rw add-one (take-suc-set (m .octets) (m .len) o (omega (arith, full))) in
+      bounds kind of (rw (added, sequence-more kind (octetsOf m) o, frame) there) refl)
+
+  placed-led : {to act : ℕ} → Places (rec .ear .place) (rec .ear .past) past (rec .msg .len) bit to act → (Led heard (changed (rec .msg) act past) to) × (length (changed (rec .msg) act past .octets) ≡ 64)
+  unfolding changed when
+  placed-led (hunts at) = (by-hunted (rec .msg) (hunted-as (rec .ear .past) bit), full)
+  placed-led (inside-sync some few) =
+      (in-sync led-there some (omega arith)
+      (λ later short stands is. syncs (later ++ bit ∷ []) (omega (arith, length-append later (bit ∷ []), is)) (further bit sofar tenOnes (0 ∷ later) stands) (omega (arith, length-append later (bit ∷ []), is))), full)
+  placed-led (accepts Ci at word) = (accepted Ci at word, full)
+  placed-led (accepts Menu at word) = (accepted Menu at word, full)
+  placed-led (passes-over at not-ci not-menu) = (led.hunts refl, full)
+  placed-led (opens-octet at is-zero) = (at-boundary led-there at (λ kind of stands. fills kind [] of (lit< tt) (rw is-zero (one-further 0 sofar (sequence kind (octetsOf (rec .msg))) stands)) refl), full)
+  placed-led (opens-end at one) = (at-boundary led-there at (λ kind of stands. ends kind 0 of (lit< tt) (rw (is-one one) (one-further 1 sofar (sequence kind (octetsOf (rec .msg))) stands)) refl), full)
+  placed-led (inside-octet some few) =
+      (in-octet led-there some (omega arith)
+      (λ kind data′ of short stands is.
+      fills kind (data′ ++ bit ∷ []) of (omega (arith, length-append data′ (bit ∷ []), is)) (further bit sofar (sequence kind (octetsOf (rec .msg))) (0 ∷ data′) stands) (omega (arith, length-append data′ (bit ∷ []), is))), full)
+  placed-led (stop-zero at is-zero) = (led.hunts refl, full)
+  placed-led (bad-octet at one is-bad) = (led.hunts refl, full)
+  placed-led (too-many at one too-full) = (led.hunts refl, full)
+  placed-led (stores at one fine room) = (filled at one room, length-set (rec .msg .octets) (rec .msg .len % 64) (octetOf past) ∙ full)
+  placed-led (cut-short some is-zero) = (by-hunted (rec .msg) (hunted-as (rec .ear .past) bit), full)
+  placed-led (inside-end some few one) =
+      (in-end led-there some
+      (λ kind n of short stands is.
+      ends kind (suc n) of (omega (arith, is)) (rw (is-one one) (rw (← (replicate-more {A = ℕ} n 1)) (further 1 sofar (sequence kind (octetsOf (rec .msg))) (1 ∷ replicate n 1) stands))) (omega (arith, is))), full)
+  placed-led (reporting late one) = (led.hunts refl, full)
+
+  turned-led : {to act : ℕ} → Turns (rec .ear) (rec .msg .len) bit to act → (Led heard (changed (rec .msg) act past) to) × (length (changed (rec .msg) act past .octets) ≡ 64)
+  unfolding changed when
+  turned-led (tells-cj e) = (led.hunts refl, full)
+  turned-led (is-placed e p) = placed-led p
+
+  led-on : (Led heard (heardBit rec bit .rec .msg) (heardBit rec bit .rec .ear .place)) × (length (heardBit rec bit .rec .msg .octets) ≡ 64)
+  unfolding acted
+  led-on = rw (heard-turned rec bit (knows .range) low) (turned-led (turned-as (rec .ear) (rec .msg .len) bit .by))
+
+  -- what is reported stands on the line
+  ended-there : {act : ℕ} → Asks (rec .ear .place) bit act → act ≡ report → (kind : Kind) × (IsOf kind (rec .msg)) × (Ends (sequence kind (octetsOf (rec .msg)) ++ tenOnes) heard)
+  ended-there (neither no-report no-cj) asked = absurd (no-report asked)
+  ended-there (a-report late one is-report) asked =
+      in-end led-there (omega arith)
+      (λ kind n of short stands is.
+      let nine : suc n ≡ 9 = omega (arith, is) in
+      (kind, of, rw (is-one one) (subst (λ (k : ℕ). Ends (sequence kind (octetsOf (rec .msg)) ++ 1 ∷ replicate k 1) (sofar ++ 1 ∷ [])) nine (rw (← (replicate-more {A = ℕ} n 1)) (further 1 sofar (sequence kind (octetsOf (rec .msg))) (1 ∷ replicate n 1) stands)))))
+
+  reported-there : {to act : ℕ} → Turns (rec .ear) (rec .msg .len) bit to act → act ≡ report → (kind : Kind) × (IsOf kind (rec .msg)) × (Ends (sequence kind (octetsOf (rec .msg)) ++ tenOnes) heard)
+  reported-there (tells-cj e) asked = absurd (omega (arith, asked))
+  reported-there (is-placed e p) asked = ended-there (asks p) asked
+
+-- since a record was fresh
+abbrev Stands : List ℕ → Listener → Type 0
+Stands sofar rec = (Led sofar (rec .msg) (rec .ear .place)) × (length (rec .msg .octets) ≡ 64)
+
+stands-heard : (bits : List ℕ) → Bits bits → Stands bits (onceHeard fresh bits)
+stands-heard = since-fresh Stands (led.hunts refl, refl) (λ sofar rec bits-sofar knows stands bit low. led-on sofar rec bits-sofar knows (stands .0) (stands .1) bit low)
+
+pub led-heard : (bits : List ℕ) → Bits bits → Led bits (onceHeard fresh bits .msg) (onceHeard fresh bits .ear .place)
+led-heard bits lows = stands-heard bits lows .0

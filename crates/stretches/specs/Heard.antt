@@ -1,0 +1,34 @@
+-- Document 01, 'Listening', said of the bits that a record heard since it was fresh: what led to its place in the framing, and to its octets.
+use Prim.Native.Nat.{ℕ, _+_, _<_, _≤_}
+use mathlib.Core.Path.{_≡_}
+use mathlib.Core.List.{List, [], _∷_, _++_}
+use lib.ListN.{length, replicate}
+use Rattle.octets.specs.declared.Kind.{Kind}
+use Rattle.octets.specs.declared.Kind.the-variants.{Ci, Menu}
+use Rattle.sequences.specs.Line.{tenOnes, sequence}
+use Rattle.framing.specs.Framing.{hunting, inSync, lastOfSync, boundary, inOctet, endingOnes}
+use Rattle.listening.specs.declared.Message.{Message}
+use Rattle.listening.specs.Hearing.{octetsOf}
+use Rattle.stretches.specs.Stretch.{Ends}
+
+-- the number of a kind in a record
+abbrev pub coded : Kind → ℕ
+coded Ci = 1
+coded Menu = 2
+
+-- a message of this kind
+abbrev pub IsOf : Kind → Message → Type 0
+IsOf kind m = m .kind ≡ coded kind
+
+-- the bits that lead to a place, with the message being heard there
+pub data Led (bits : List ℕ) (m : Message) (place : ℕ) : Type 0 where
+  -- hunting: whatever was heard
+  hunts : place ≡ hunting → Led bits m place
+  -- "A 0 whose ten preceding heard bits are all 1 starts a sync."
+  syncs : (later : List ℕ) → length later < lastOfSync → Ends (tenOnes ++ 0 ∷ later) bits → place ≡ inSync + length later → Led bits m place
+  -- "If the ten bits from there are the CI or menu sync, octets follow"
+  bounds : (kind : Kind) → IsOf kind m → Ends (sequence kind (octetsOf m)) bits → place ≡ boundary → Led bits m place
+  -- "At an octet boundary, 0 starts an octet": 0, and some of "b0 to b7"
+  fills : (kind : Kind) (data′ : List ℕ) → IsOf kind m → length data′ < 9 → Ends (sequence kind (octetsOf m) ++ 0 ∷ data′) bits → place ≡ inOctet + length data′ → Led bits m place
+  -- ".. and 1 ends the sequence": 1s "in a row, counted from the boundary"
+  ends : (kind : Kind) (n : ℕ) → IsOf kind m → n < 9 → Ends (sequence kind (octetsOf m) ++ 1 ∷ replicate n 1) bits → place ≡ endingOnes + n → Led bits m place
