@@ -3,9 +3,9 @@
 use Prim.Native.Nat.{ℕ, _<_, _≤_, _+_}
 use native.Mathlib.Omega.{arith}
 use mathlib.Core.Path.{_≡_, refl}
-use mathlib.Core.Bool.{true, false, not}
+use mathlib.Core.Bool.{true, false}
 use borrow.Author.Tests.{eqb-true, eqb-false, ltb-true, ltb-false}
-use lib.Dec.{T, eqb, ltb}
+use lib.Dec.{eqb, ltb, lit<}
 use Rattle.laws.specs.Logic.{when, both}
 use Rattle.laws.proofs.Logic.{either-way, both-true}
 use Rattle.octets.specs.declared.Kind.{Kind}
@@ -76,34 +76,6 @@ module _ (place before past len bit : ℕ) where
       (λ past-octet. either-way P (eqb place stopPosition) _ _ (λ at. stopped-as (eqb-true _ _ at))
       (λ in-end. ended-as (omega (arith, ltb-false place stopPosition past-octet, eqb-false place stopPosition in-end))))))))
 
--- what a bit at its place asks for: a report behind nine 1s, and otherwise neither a report nor CJ
-pub data Asks (place bit act : ℕ) : Type 0 where
-  a-report : lastOfEnding ≤ place → (bit ≡ 0 → ⊥) → act ≡ report → Asks place bit act
-  neither : (act ≡ report → ⊥) → (act ≡ tellCj → ⊥) → Asks place bit act
-
-module _ {place bit : ℕ} where
-  other : (act : ℕ) → T (both (not (eqb act report)) (not (eqb act tellCj))) → Asks place bit act
-  unfolding both
-  other act tested = neither (λ e. rw e at tested) (λ e. rw e at tested)
-
-pub asks : {place before past len bit to act : ℕ} → Places place before past len bit to act → Asks place bit act
-unfolding both
-asks (hunts at) = other nothing tt
-asks (inside-sync some few) = other nothing tt
-asks (accepts Ci at word) = other startCi tt
-asks (accepts Menu at word) = other startMenu tt
-asks (passes-over at not-ci not-menu) = other nothing tt
-asks (opens-octet at is-zero) = other nothing tt
-asks (opens-end at one) = other nothing tt
-asks (inside-octet some few) = other nothing tt
-asks (stop-zero at is-zero) = other (refusalAct 2) tt
-asks (bad-octet at one is-bad) = other (refusalAct 3) tt
-asks (too-many at one full) = other (refusalAct 4) tt
-asks (stores at one fine room) = other store tt
-asks (cut-short some is-zero) = other (refusalAct 13) tt
-asks (inside-end some few one) = other nothing tt
-asks (reports late one) = a-report late one refl
-
 -- hunting, or one bit into a sync
 pub data Hunted (before bit : ℕ) : ℕ → Type 0 where
   goes-by : Hunted before bit hunting
@@ -119,6 +91,31 @@ hunted-as before bit =
 pub hunted-low : (before bit : ℕ) → hunted before bit ≤ inSync
 unfolding hunted
 hunted-low before bit = either-way (λ (place : ℕ). place ≤ inSync) (both (eqb bit 0) (eqb (lastTen before) (value tenOnes))) _ _ (λ _. omega arith) (λ _. omega arith)
+
+-- what a bit at its place asks for: nothing, and a place before the boundary stays before it; a message that begins or grows, at an octet
+-- boundary; a report, behind nine 1s; or a refusal, from the stop position on. CJ it never asks for
+pub data Asks (place bit to act : ℕ) : Type 0 where
+  no-ask : (place ≤ lastOfSync → to ≤ lastOfSync) → act ≡ nothing → Asks place bit to act
+  a-message : to ≡ boundary → 0 < act → act < report → Asks place bit to act
+  a-report : lastOfEnding ≤ place → (bit ≡ 0 → ⊥) → to ≡ hunting → act ≡ report → Asks place bit to act
+  a-refusal : stopPosition ≤ place → to ≤ inSync → tellCj < act → Asks place bit to act
+
+pub asks : {place before past len bit to act : ℕ} → Places place before past len bit to act → Asks place bit to act
+asks {before = before} {bit = bit} (hunts at) = no-ask (λ _. omega (arith, hunted-low before bit)) refl
+asks (inside-sync some few) = no-ask (λ _. omega arith) refl
+asks (accepts Ci at word) = a-message refl (lit< tt) (lit< tt)
+asks (accepts Menu at word) = a-message refl (lit< tt) (lit< tt)
+asks (passes-over at not-ci not-menu) = no-ask (λ _. omega arith) refl
+asks (opens-octet at is-zero) = no-ask (λ low. absurd (omega (arith, at))) refl
+asks (opens-end at one) = no-ask (λ low. absurd (omega (arith, at))) refl
+asks (inside-octet some few) = no-ask (λ low. absurd (omega arith)) refl
+asks (stop-zero at is-zero) = a-refusal (omega (arith, at)) (omega arith) (lit< tt)
+asks (bad-octet at one is-bad) = a-refusal (omega (arith, at)) (omega arith) (lit< tt)
+asks (too-many at one full) = a-refusal (omega (arith, at)) (omega arith) (lit< tt)
+asks (stores at one fine room) = a-message refl (lit< tt) (lit< tt)
+asks {before = before} {bit = bit} (cut-short some is-zero) = a-refusal (omega arith) (hunted-low before bit) (lit< tt)
+asks (inside-end some few one) = no-ask (λ low. absurd (omega arith)) refl
+asks (reports late one) = a-report late one refl refl
 
 -- a bit that turns the ear: CJ is told, or it is at its place
 pub data Turns (ear : Ear) (len bit : ℕ) : (to act : ℕ) → Type 0 where

@@ -26,7 +26,7 @@ use Rattle.listening.proofs.Acts.{messages-other}
 use Rattle.listening.proofs.Ranges.{Fits, fits-range, heard-in-fits}
 
 -- acts below a report tell nothing, and the others something
-told-quiet : (act : ℕ) (m last : Message) → act < report → told act m last ≡ silence
+pub told-quiet : (act : ℕ) (m last : Message) → act < report → told act m last ≡ silence
 unfolding told toldAlone when
 told-quiet act m last low = simp (ne-eqb act report (λ z. omega (arith, low, z)), lt-ltb act report low)
 

@@ -24,6 +24,10 @@ abbrev pub sync : Kind → List ℕ
 sync Ci = 0 ∷ 0 ∷ 0 ∷ 0 ∷ 0 ∷ 0 ∷ 0 ∷ 0 ∷ 0 ∷ 1 ∷ []
 sync Menu = 0 ∷ 0 ∷ 0 ∷ 0 ∷ 0 ∷ 0 ∷ 1 ∷ 1 ∷ 1 ∷ 1 ∷ []
 
+-- and in it V.92's own, 0101010101, which is no kind of ours
+abbrev pub v92Sync : List ℕ
+v92Sync = 0 ∷ 1 ∷ 0 ∷ 1 ∷ 0 ∷ 1 ∷ 0 ∷ 1 ∷ 0 ∷ 1 ∷ []
+
 -- "A sequence is ten 1s, ten sync bits, then octets."
 unfoldable pub sequence : Kind → List ℕ → List ℕ
 sequence kind octets = tenOnes ++ sync kind ++ framedAll octets

@@ -16,7 +16,7 @@ use Rattle.sequences.specs.Line.{cj as cjBits}
 use Rattle.sequences.proofs.Lines.{cj-length}
 use Rattle.framing.specs.Framing.{value, pushed, more, isCj, turned, report, tellCj}
 use Rattle.framing.proofs.Words.{hearing}
-use Rattle.framing.proofs.Places.{Asks, a-report, neither, asks, turning, Turns, tells-cj, is-placed, TurnedAs, turned-as}
+use Rattle.framing.proofs.Places.{Asks, no-ask, a-message, a-report, a-refusal, asks, turning, Turns, tells-cj, is-placed, TurnedAs, turned-as}
 use Rattle.leaps.proofs.Spans.{hearing-number}
 use Rattle.listening.specs.declared.Listener.{Listener}
 use Rattle.listening.specs.declared.Message.{Message}
@@ -155,9 +155,11 @@ module _ (sofar : List ℕ) (rec : Listener) (knows : Knows sofar rec) (bits-sof
   by-turn (tells-cj e) ends = refl
   by-turn (is-placed e p) ends = clash (sym (ends-is-cj ends) ∙ e)
 
-  only-placed : {act : ℕ} → Asks (rec .ear .place) bit act → act ≡ tellCj → ⊥
-  only-placed (a-report late one is-report) is = omega (arith, is-report, is)
-  only-placed (neither no-report no-cj) is = no-cj is
+  only-placed : {to act : ℕ} → Asks (rec .ear .place) bit to act → act ≡ tellCj → ⊥
+  only-placed (no-ask before-boundary asked) is = omega (arith, asked, is)
+  only-placed (a-message at some few) is = omega (arith, is)
+  only-placed (a-report late one at asked) is = omega (arith, asked, is)
+  only-placed (a-refusal late at high) is = omega (arith, is)
 
   only-turn : {to act : ℕ} → Turns (rec .ear) (rec .msg .len) bit to act → act ≡ tellCj → Ends cjBits (sofar ++ bit ∷ [])
   only-turn (tells-cj e) is = is-cj-ends e

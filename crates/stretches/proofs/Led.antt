@@ -8,10 +8,12 @@ use native.Mathlib.Omega.{arith}
 use mathlib.Core.Path.{_≡_, refl, sym, ap, ap₂, subst, _∙_}
 use mathlib.Core.Bool.{Bool, true, false}
 use mathlib.Core.List.{List, [], _∷_, _++_, append-assoc, append-nil}
-use lib.Dec.{lit<}
+use borrow.Author.Tests.{eqb-true, eqb-false}
+use lib.Dec.{eqb, ltb, lit<}
 use lib.ListN.{length, take, set, replicate, length-append, length-set}
 use lib.Seq.{take-suc-set}
 use Rattle.laws.specs.Logic.{when}
+use Rattle.laws.proofs.Logic.{either-way, clash}
 use Rattle.octets.specs.declared.Kind.{Kind}
 use Rattle.octets.specs.declared.Kind.the-variants.{Ci, Menu}
 use Rattle.octets.specs.Octets.{b0, b1, b2, b3, b4, b5, b6, b7}
@@ -19,23 +21,25 @@ use Rattle.sequences.specs.Line.{framed, framedAll, tenOnes, sync, sequence}
 use Rattle.sequences.proofs.Lines.{framed-append}
 use Rattle.framing.specs.Framing.{value, pushed, lastTen, octetOf, hunting, inSync, lastOfSync, boundary, inOctet, stopPosition, endingOnes, lastOfEnding, report, tellCj, hunted}
 use Rattle.framing.proofs.Words.{hearing}
-use Rattle.framing.proofs.Places.{Places, hunts, inside-sync, accepts, passes-over, opens-octet, opens-end, inside-octet, stop-zero, bad-octet, too-many, stores, cut-short, inside-end, reports as reporting, Asks, a-report, neither, asks, Hunted, goes-by, starts, hunted-as, turning, Turns, tells-cj, is-placed, turned-as}
+use Rattle.framing.proofs.Places.{Places, hunts, inside-sync, accepts, passes-over, opens-octet, opens-end, inside-octet, stop-zero, bad-octet, too-many, stores, cut-short, inside-end, reports as reporting, Asks, no-ask, a-message, a-report, a-refusal, asks, Hunted, goes-by, starts, hunted-as, turning, Turns, tells-cj, is-placed, TurnedAs, turned-as}
 use Rattle.listening.specs.declared.Listener.{Listener}
 use Rattle.listening.specs.declared.Message.{Message}
-use Rattle.listening.specs.Hearing.{HearOutcome, octetsOf, stored, changed, told, acted, heardBit}
+use Rattle.listening.specs.Hearing as telling
+use Rattle.listening.specs.Hearing.{Told, silence, HearOutcome, octetsOf, stored, changed, agreed, reported, told, toldAlone, acted, heardBit}
+use Rattle.listening.proofs.Acts.{told-report, told-other}
 use Rattle.listening.specs.Record.{inRange, fresh}
 use Rattle.listening.proofs.Ranges.{range-fits}
 use Rattle.stretches.specs.Stretch.{Ends}
-use Rattle.stretches.specs.Hearing.{onceHeard}
+use Rattle.stretches.specs.Hearing.{Report, message, cj, refusal, noted, onceHeard}
 use Rattle.stretches.specs.Heard.{coded, IsOf, Led, syncs, bounds, fills, ends}
 use Rattle.stretches.specs.Heard as led
 use Rattle.stretches.proofs.Each.{Each, none, more as also, each-append, each-left, each-right, Bits, replicate-more}
 use Rattle.stretches.proofs.Past.{Small, hearing-small, hearing-append, ten-heard, ones-heard}
 use Rattle.stretches.proofs.Sequences.{sync-bits, framed-bits, framed-value}
-use Rattle.stretches.proofs.Heard.{Knows, heard-turned, past-on, since-fresh}
+use Rattle.stretches.proofs.Heard.{Knows, heard-turned, past-on, since-fresh, knows-heard}
 
 -- bits that make the same number are the same
-same-bits : (v w : List ℕ) → Bits v → Bits w → length v ≡ length w → value v ≡ value w → v ≡ w
+pub same-bits : (v w : List ℕ) → Bits v → Bits w → length v ≡ length w → value v ≡ value w → v ≡ w
 same-bits [] [] none none size number = refl
 same-bits [] (y ∷ w) none (also low lows) size number = absurd (omega (arith, size))
 same-bits (x ∷ v) [] (also low lows) none size number = absurd (omega (arith, size))
@@ -56,7 +60,7 @@ value-low [] none = omega arith
 value-low (bit ∷ bits) (also low lows) = omega (arith, value-low bits lows, twice bit bits)
 
 -- both are ten bits
-sync-length : (kind : Kind) → length (sync kind) ≡ 10
+pub sync-length : (kind : Kind) → length (sync kind) ≡ 10
 sync-length Ci = refl
 sync-length Menu = refl
 
@@ -71,14 +75,14 @@ sequence-more kind octets b = ap (λ (l : List ℕ). tenOnes ++ sync kind ++ l) 
 
 -- one bit more at the end
 module _ (bit : ℕ) (bits : List ℕ) where
-  further : (a b : List ℕ) → Ends (a ++ b) bits → Ends (a ++ (b ++ bit ∷ [])) (bits ++ bit ∷ [])
+  pub further : (a b : List ℕ) → Ends (a ++ b) bits → Ends (a ++ (b ++ bit ∷ [])) (bits ++ bit ∷ [])
   further a b e = (e .0, sym (append-assoc (e .0) (a ++ b) (bit ∷ []) ∙ ap (λ (l : List ℕ). e .0 ++ l) (append-assoc a b (bit ∷ []))) ∙ ap (λ (l : List ℕ). l ++ bit ∷ []) (e .1))
 
-  one-further : (a : List ℕ) → Ends a bits → Ends (a ++ bit ∷ []) (bits ++ bit ∷ [])
+  pub one-further : (a : List ℕ) → Ends a bits → Ends (a ++ bit ∷ []) (bits ++ bit ∷ [])
   one-further a e = (e .0, sym (append-assoc (e .0) a (bit ∷ [])) ∙ ap (λ (l : List ℕ). l ++ bit ∷ []) (e .1))
 
 -- the number of the last ten bits
-ends-number : (a w bits : List ℕ) → Bits bits → length w ≡ 10 → Ends (a ++ w) bits → (lastTen (hearing 0 bits) ≡ value w) × Bits w
+pub ends-number : (a w bits : List ℕ) → Bits bits → length w ≡ 10 → Ends (a ++ w) bits → (lastTen (hearing 0 bits) ≡ value w) × Bits w
 ends-number a w bits lows ten e =
     let early = e .0 ++ a in
     let parted : early ++ w ≡ bits = append-assoc (e .0) a w ∙ e .1 in
@@ -212,9 +216,11 @@ module _ (sofar : List ℕ) (rec : Listener) (bits-sofar : Bits sofar) (knows : 
   led-on = rw (heard-turned rec bit (knows .range) low) (turned-led (turned-as (rec .ear) (rec .msg .len) bit .by))
 
   -- what is reported stands on the line
-  ended-there : {act : ℕ} → Asks (rec .ear .place) bit act → act ≡ report → (kind : Kind) × (IsOf kind (rec .msg)) × (Ends (sequence kind (octetsOf (rec .msg)) ++ tenOnes) heard)
-  ended-there (neither no-report no-cj) asked = absurd (no-report asked)
-  ended-there (a-report late one is-report) asked =
+  ended-there : {to act : ℕ} → Asks (rec .ear .place) bit to act → act ≡ report → (kind : Kind) × (IsOf kind (rec .msg)) × (Ends (sequence kind (octetsOf (rec .msg)) ++ tenOnes) heard)
+  ended-there (no-ask before-boundary is-nothing) asked = absurd (omega (arith, is-nothing, asked))
+  ended-there (a-message at some few) asked = absurd (omega (arith, asked))
+  ended-there (a-refusal late at high) asked = absurd (omega (arith, asked))
+  ended-there (a-report late one at is-report) asked =
       in-end led-there (omega arith)
       (λ kind n of short stands is.
       let nine : suc n ≡ 9 = omega (arith, is) in
@@ -233,3 +239,47 @@ stands-heard = since-fresh Stands (led.hunts refl, refl) (λ sofar rec bits-sofa
 
 pub led-heard : (bits : List ℕ) → Bits bits → Led bits (onceHeard fresh bits .msg) (onceHeard fresh bits .ear .place)
 led-heard bits lows = stands-heard bits lows .0
+
+-- what a bit notes where it reports a message, and that it notes none otherwise
+module _ (m last : Message) (kind : Kind) (octets : List ℕ) (flag : Bool) where
+  abbrev NotesIt : Told → Type 0
+  NotesIt t = noted t m [] ≡ message kind octets flag ∷ []
+
+  report-noted : (kind′ : Kind) → IsOf kind′ m → NotesIt (reported m last) → (kind′ ≡ kind) × (octetsOf m ≡ octets)
+  unfolding reported when
+  report-noted Ci of e = let it : message Ci (octetsOf m) false ∷ [] ≡ message kind octets flag ∷ [] = sym (simp of) ∙ e in (cc, cc)
+  report-noted Menu of e = let it : message Menu (octetsOf m) (agreed m last) ∷ [] ≡ message kind octets flag ∷ [] = sym (simp of) ∙ e in (cc, cc)
+
+  abbrev isMessage : List Report → Bool
+  isMessage [] = false
+  isMessage (message k o f ∷ later) = true
+  isMessage (cj ∷ later) = false
+  isMessage (refusal n ∷ later) = false
+
+  none-noted : (act : ℕ) → NotesIt (toldAlone act) → ⊥
+  unfolding toldAlone
+  none-noted act =
+      let Not : Told → Type 0 = λ (t : Told). NotesIt t → ⊥ in
+      either-way Not (ltb act report) silence _ (λ _ e. clash (ap isMessage (sym e)))
+      (λ _. either-way Not (eqb act tellCj) telling.cj _ (λ _ e. clash (ap isMessage (sym e))) (λ _ e. clash (ap isMessage (sym e))))
+
+module _ (sofar : List ℕ) (bits-sofar : Bits sofar) (bit : ℕ) (low : bit < 2) (kind : Kind) (octets : List ℕ) (flag : Bool) where
+  abbrev rec : Listener
+  rec = onceHeard fresh sofar
+
+  abbrev turn : TurnedAs (rec .ear) (rec .msg .len) bit
+  turn = turned-as (rec .ear) (rec .msg .len) bit
+
+  by-act : (is : Bool) → eqb (turn .act) report ≡ is → noted (told (turn .act) (rec .msg) (rec .last)) (changed (rec .msg) (turn .act) (pushed (rec .ear .past) bit)) [] ≡ message kind octets flag ∷ [] → Ends (sequence kind octets ++ tenOnes) (sofar ++ bit ∷ [])
+  unfolding changed when
+  by-act true e notes =
+      let asked = eqb-true (turn .act) report e in
+      let stands = stands-heard sofar bits-sofar in
+      let there = reported-there sofar rec bits-sofar (knows-heard sofar bits-sofar) (stands .0) (stands .1) bit low (turn .by) asked in
+      let same = report-noted (rec .msg) (rec .last) kind octets flag (there .0) (there .1) (sym (ap₂ (λ (t : Told) (act : ℕ). noted t (changed (rec .msg) act (pushed (rec .ear .past) bit)) []) (told-report (turn .act) (rec .msg) (rec .last) asked) asked) ∙ notes) in
+      rw (← (same .0), ← (same .1)) (there .2)
+  by-act false e notes = absurd (none-noted _ (rec .last) kind octets flag (turn .act) (ap (λ (t : Told). noted t (changed (rec .msg) (turn .act) (pushed (rec .ear .past) bit)) []) (sym (told-other (turn .act) (rec .msg) (rec .last) (eqb-false (turn .act) report e))) ∙ notes))
+
+  pub reported-stands : noted (heardBit (onceHeard fresh sofar) bit .report) (heardBit (onceHeard fresh sofar) bit .rec .msg) [] ≡ message kind octets flag ∷ [] → Ends (sequence kind octets ++ tenOnes) (sofar ++ bit ∷ [])
+  unfolding acted
+  reported-stands notes = by-act (eqb (turn .act) report) refl (ap (λ (o : HearOutcome). noted (o .report) (o .rec .msg) []) (sym (heard-turned rec bit (knows-heard sofar bits-sofar .range) low)) ∙ notes)

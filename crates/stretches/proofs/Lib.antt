@@ -8,6 +8,7 @@ pub mod Sequences
 pub mod Flags
 pub mod Heard
 pub mod Led
+pub mod Syncs
 pub mod Copies
 pub mod Hunting
 pub mod Cuts

@@ -8,8 +8,10 @@ use Rattle.octets.specs.declared.Kind.the-variants.{Ci, Menu}
 use Rattle.sequences.specs.Line.{tenOnes, sequence}
 use Rattle.framing.specs.Framing.{hunting, inSync, lastOfSync, boundary, inOctet, endingOnes}
 use Rattle.listening.specs.declared.Message.{Message}
-use Rattle.listening.specs.Hearing.{octetsOf}
+use Rattle.listening.specs.declared.Listener.{Listener}
+use Rattle.listening.specs.Hearing.{octetsOf, heardBit}
 use Rattle.stretches.specs.Stretch.{Ends}
+use Rattle.stretches.specs.Hearing.{onceHeard, reports}
 
 -- the number of a kind in a record
 abbrev pub coded : Kind → ℕ
@@ -32,3 +34,15 @@ pub data Led (bits : List ℕ) (m : Message) (place : ℕ) : Type 0 where
   fills : (kind : Kind) (data′ : List ℕ) → IsOf kind m → length data′ < 9 → Ends (sequence kind (octetsOf m) ++ 0 ∷ data′) bits → place ≡ inOctet + length data′ → Led bits m place
   -- ".. and 1 ends the sequence": 1s "in a row, counted from the boundary"
   ends : (kind : Kind) (n : ℕ) → IsOf kind m → n < 9 → Ends (sequence kind (octetsOf m) ++ 1 ∷ replicate n 1) bits → place ≡ endingOnes + n → Led bits m place
+
+-- bits that are "passed over": nothing is told, "hunting resumes", and both messages stay
+pub record PassedOver (rec : Listener) (bits : List ℕ) : Type 0 where
+  pub silent : reports rec bits ≡ []
+  pub hunting′ : onceHeard rec bits .ear .place ≡ hunting
+  pub msg : onceHeard rec bits .msg ≡ rec .msg
+  pub last : onceHeard rec bits .last ≡ rec .last
+
+-- no sync is accepted in these bytes: none of them brings an octet boundary
+unfoldable pub Unsynced : Listener → List ℕ → Type 0
+Unsynced rec [] = Unit
+Unsynced rec (bit ∷ bits) = (heardBit rec bit .rec .ear .place ≡ boundary → ⊥) × Unsynced (heardBit rec bit .rec) bits
