@@ -3,7 +3,7 @@ use Prim.Native.Nat.{ℕ, zero, suc}
 use mathlib.Core.Path.{_≡_}
 use mathlib.Core.Bool.{Bool, true, false}
 use mathlib.Core.List.{List, [], _∷_}
-use lib.ListN.{replicate}
+use lib.ListN.{drop, replicate}
 use Rattle.laws.specs.Logic.{both}
 use Rattle.laws.specs.Tests.{sameList}
 use Rattle.octets.specs.declared.Kind.{Kind}
@@ -12,7 +12,7 @@ use Rattle.octets.specs.Lists.{readable}
 use Rattle.listening.specs.declared.Message.{Message}
 use Rattle.listening.specs.declared.Listener.{Listener}
 use Rattle.listening.specs.Hearing as hearing
-use Rattle.listening.specs.Hearing.{Told, silence, ci, menu, octetsOf, heardBit}
+use Rattle.listening.specs.Hearing.{Told, silence, ci, menu, octetsOf, heardBit, heardBits}
 use Rattle.listening.specs.Record.{fresh}
 
 -- the record once bits are heard
@@ -38,6 +38,14 @@ noted (hearing.refusal n) m later = refusal n ∷ later
 unfoldable pub reports : Listener → List ℕ → List Report
 reports rec [] = []
 reports rec (bit ∷ bits) = noted (heardBit rec bit .report) (heardBit rec bit .rec .msg) (reports (heardBit rec bit .rec) bits)
+
+-- the bits of a line in parts, as they arrive, and a host that calls for many bits again and again: what a call did not take of a part comes
+-- with the next call, and what it reports is noted
+pub data Handed : Listener → List (List ℕ) → List Report → Type 0 where
+  all : {rec : Listener} → Handed rec [] []
+  taken : {rec : Listener} {parts : List (List ℕ)} {told : List Report} → Handed rec parts told → Handed rec ([] ∷ parts) told
+  call : {rec : Listener} {part : List ℕ} {parts : List (List ℕ)} {told : List Report} → Handed (heardBits rec part .rec) (drop (heardBits rec part .taken) part ∷ parts) told
+      → Handed rec (part ∷ parts) (noted (heardBits rec part .report) (heardBits rec part .rec .msg) told)
 
 -- the message that was reported last, if there is one
 pub data Earlier : Type 0 where
