@@ -1,4 +1,4 @@
--- Copies of an accepted message with ten 1s behind them: a fresh reader reports each copy, and nothing else. Each copy's ten 1s end the copy
+-- Accepted messages with ten 1s behind them, and copies of one: a fresh reader reports each, and nothing else. Each one's ten 1s end the one
 -- before it, and the ten 1s behind them the last; CJ stands nowhere in them, so a reader that does not listen for it makes the same of them.
 -- Assumes nothing.
 use Prim.Native.Nat.{ℕ, zero, suc, _≤_, _+_}
@@ -23,12 +23,12 @@ use Rattle.sequences.specs.Writing.{written}
 use Rattle.listening.specs.declared.Listener.{Listener}
 use Rattle.listening.specs.Record.{empty, fresh}
 use Rattle.stretches.specs.Stretch.{octetsAll, AcceptedMessage, Nowhere}
-use Rattle.stretches.specs.Hearing.{Report, message, reports, repeated}
+use Rattle.stretches.specs.Hearing.{Report, message, reports, nothing, flagged, Sent, none-sent, sent, lineOf, messagesOf, repeated}
 use Rattle.stretches.proofs.Each.{Each, none, more, each-append, Bits, replicate-more}
 use Rattle.stretches.proofs.Standing.{nowhere-left}
 use Rattle.octets.proofs.Lists.{before-none}
 use Rattle.stretches.proofs.Sound.{Sound, accepted-sound, accepted-length}
-use Rattle.stretches.proofs.Words.{no-cj}
+use Rattle.stretches.proofs.Words.{no-cj-sent}
 use Rattle.stretches.proofs.Plain.{plain, after, fresh-plain}
 use Rattle.stretches.proofs.Flags.{by-messages, flagged-repeated}
 use Rattle.stretches.proofs.Sequences.{Goes, goes-on, here, Idle, Primed, Held, ones-bits, sync-bits, framed-bits, ones-idle, ones-held, idle-sequence, held-sequence}
@@ -69,22 +69,41 @@ module _ (kind : Kind) (octets : List ℕ) (accepted : AcceptedMessage kind octe
   later-copies zero rec held = record { tells = refl; leaves = held }
   later-copies (suc n) rec held = goes-on (held-sequence kind octets sound room kind octets rec held) (later-copies n)
 
-  all-copies : (n : ℕ) (rec : Listener) → Idle rec → Goes rec (copies n line ++ tenOnes) (replicate n (message kind octets false)) Primed
-  unfolding copies
-  all-copies zero rec idle = ones-idle rec idle
-  all-copies (suc n) rec idle = rw (← (replicate-more n (message kind octets false))) (goes-on (goes-on (first-copy rec idle) (later-copies n)) (ones-held kind octets))
+-- messages one behind the other: each one's ten 1s end the one before it
+sent-bits : (messages : Sent) → Bits (lineOf messages)
+sent-bits none-sent = none
+sent-bits (sent kind octets accepted later) = each-append (line-bits kind octets accepted) (sent-bits later)
 
-  -- the ten 1s behind the copies open one more
-  no-cj-behind : (n : ℕ) → Nowhere cj (copies n line ++ tenOnes)
-  unfolding sequence
-  no-cj-behind n =
-      let one-more : copies (n + 1) line ≡ copies n line ++ tenOnes ++ (sync kind ++ framedAll octets) = copies-more n line ∙ simp append-assoc in
-      nowhere-left cj (copies n line ++ tenOnes) (sync kind ++ framedAll octets) (subst (Nowhere cj) one-more (no-cj kind octets sound (n + 1)))
+later-sent : (messages : Sent) (kind : Kind) (octets : List ℕ) (rec : Listener) → Held kind octets rec → Goes rec (lineOf messages ++ tenOnes) (message kind octets false ∷ messagesOf messages) Primed
+later-sent none-sent kind octets rec held = ones-held kind octets rec held
+later-sent (sent kind′ octets′ accepted later) kind octets rec held =
+    rw append-assoc (goes-on (held-sequence kind′ octets′ (accepted-sound kind′ octets′ accepted) (accepted-length kind′ octets′ accepted) kind octets rec held) (later-sent later kind′ octets′))
+
+first-sent : (messages : Sent) (rec : Listener) → Idle rec → Goes rec (lineOf messages ++ tenOnes) (messagesOf messages) Primed
+first-sent none-sent rec idle = ones-idle rec idle
+first-sent (sent kind octets accepted later) rec idle = rw append-assoc (goes-on (first-copy kind octets accepted rec idle) (later-sent later kind octets))
+
+pub sent-read : (messages : Sent) → reports fresh (lineOf messages ++ tenOnes) ≡ flagged nothing (messagesOf messages)
+sent-read messages = by-messages (lineOf messages ++ tenOnes) (messagesOf messages) (fresh-plain (lineOf messages ++ tenOnes) (each-append (sent-bits messages) ones-bits) (no-cj-sent messages) ∙ first-sent messages fresh fresh-idle .tells)
+
+-- copies are one message sent again and again
+module _ (kind : Kind) (octets : List ℕ) (accepted : AcceptedMessage kind octets) where
+  again : ℕ → Sent
+  again zero = none-sent
+  again (suc n) = sent kind octets accepted (again n)
+
+  again-line : (n : ℕ) → lineOf (again n) ≡ copies n (sequence kind octets)
+  unfolding again copies
+  again-line zero = refl
+  again-line (suc n) = ap (λ (l : List ℕ). sequence kind octets ++ l) (again-line n)
+
+  again-told : (n : ℕ) → messagesOf (again n) ≡ replicate n (message kind octets false)
+  unfolding again
+  again-told zero = refl
+  again-told (suc n) = ap (λ (l : List Report). message kind octets false ∷ l) (again-told n)
 
   pub copies-read : (n : ℕ) → reports fresh (copies n (sequence kind octets) ++ tenOnes) ≡ repeated kind octets n
-  copies-read n =
-      by-messages (copies n line ++ tenOnes) (replicate n (message kind octets false)) (fresh-plain (copies n line ++ tenOnes) (each-append (copies-bits n) ones-bits) (no-cj-behind n) ∙ all-copies n fresh fresh-idle .tells)
-      ∙ flagged-repeated kind octets accepted n
+  copies-read n = rw (← (again-line n)) (sent-read (again n) ∙ ap (flagged nothing) (again-told n) ∙ flagged-repeated kind octets accepted n)
 
 -- where the writer says how many bits it wrote, these stand at the front of its buffer
 abbrev laidDown : Bool → ℕ → List ℕ → List ℕ → WriteOutcome

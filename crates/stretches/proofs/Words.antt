@@ -15,9 +15,10 @@ use Rattle.octets.specs.declared.Kind.{Kind}
 use Rattle.octets.specs.declared.Kind.the-variants.{Ci, Menu}
 use Rattle.sequences.specs.Line.{framed, framedAll, tenOnes, sync, sequence, copies, cj}
 use Rattle.stretches.specs.Stretch.{Nowhere, flag}
+use Rattle.stretches.specs.Hearing.{Sent, none-sent, sent, lineOf}
 use Rattle.stretches.proofs.Each.{Each, none, more}
 use Rattle.stretches.proofs.Standing.{Table, run, run-append, nowhere-right, nowhere}
-use Rattle.stretches.proofs.Sound.{implies, implied, soundly, Sound}
+use Rattle.stretches.proofs.Sound.{implies, implied, soundly, Sound, accepted-sound}
 
 -- a piece of the line that leads from each of the first states to one of them
 abbrev keeps : Table → ℕ → List ℕ → Bool
@@ -62,6 +63,11 @@ module _ (table : Table) (good : ℕ) where
   copies-keep line line-keeps zero = nothing-keeps
   copies-keep line line-keeps (suc n) = both-keep line (copies n line) line-keeps (copies-keep line line-keeps n)
 
+  messages-keep : T (linesKeep table good tenOnes) → (messages : Sent) → Keeps (lineOf messages)
+  unfolding sequence
+  messages-keep computed none-sent = nothing-keeps
+  messages-keep computed (sent kind octets accepted later) = both-keep (sequence kind octets) (lineOf later) (lines-keep tenOnes computed kind octets (accepted-sound kind octets accepted)) (messages-keep computed later)
+
 -- the flag: up to five 1s since the last 0; seven or more, or no 0 yet; six; the flag has stood
 abbrev flags : Table
 flags = record { zeros = 0 ∷ 0 ∷ 0 ∷ 0 ∷ 0 ∷ 0 ∷ 0 ∷ 8 ∷ 8 ∷ []; ones = 1 ∷ 2 ∷ 3 ∷ 4 ∷ 5 ∷ 7 ∷ 6 ∷ 6 ∷ 8 ∷ []; last = 8 }
@@ -81,6 +87,10 @@ starts = record { zeros = 0 ∷ 0 ∷ 0 ∷ 0 ∷ 0 ∷ 0 ∷ 0 ∷ 0 ∷ 0 ∷ 
 -- ten 1s with a 0 behind them
 abbrev pub start : List ℕ
 start = tenOnes ++ 0 ∷ []
+
+pub no-cj-sent : (messages : Sent) → Nowhere cj (lineOf messages ++ tenOnes)
+unfolding run when both either allBelow framed framedAll cj
+no-cj-sent messages = nowhere cj cjs tt _ 0 (lit< tt) (omega (arith, both-keep cjs 2 (lineOf messages) tenOnes (messages-keep cjs 2 tt messages) (kept cjs 2 tenOnes tt) 0 (lit< tt)))
 
 module _ (kind : Kind) (octets : List ℕ) (sound : Each Sound octets) where
   pub no-flag : (n : ℕ) → Nowhere flag (copies n (sequence kind octets))

@@ -2,18 +2,20 @@
 use Prim.Native.Nat.{ℕ, zero, suc}
 use mathlib.Core.Path.{_≡_}
 use mathlib.Core.Bool.{Bool, true, false}
-use mathlib.Core.List.{List, [], _∷_}
+use mathlib.Core.List.{List, [], _∷_, _++_}
 use lib.ListN.{drop, replicate}
 use Rattle.laws.specs.Logic.{both}
 use Rattle.laws.specs.Tests.{sameList}
 use Rattle.octets.specs.declared.Kind.{Kind}
 use Rattle.octets.specs.declared.Kind.the-variants.{Ci, Menu}
 use Rattle.octets.specs.Lists.{readable}
+use Rattle.sequences.specs.Line.{sequence}
 use Rattle.listening.specs.declared.Message.{Message}
 use Rattle.listening.specs.declared.Listener.{Listener}
 use Rattle.listening.specs.Hearing as hearing
 use Rattle.listening.specs.Hearing.{Told, silence, ci, menu, octetsOf, heardBit, heardBits}
 use Rattle.listening.specs.Record.{fresh}
+use Rattle.stretches.specs.Stretch.{AcceptedMessage}
 
 -- the record once bits are heard
 unfoldable pub onceHeard : Listener → List ℕ → Listener
@@ -65,6 +67,20 @@ flagged before [] = []
 flagged before (message kind octets flag ∷ later) = message kind octets (agrees before kind octets) ∷ flagged (earlier kind octets) later
 flagged before (cj ∷ later) = cj ∷ flagged before later
 flagged before (refusal n ∷ later) = refusal n ∷ flagged before later
+
+-- messages that are sent one behind the other, each of them accepted by the writer; their bits; and the reports on them, of which none is
+-- flagged yet
+pub data Sent : Type 0 where
+  none-sent : Sent
+  sent : (kind : Kind) (octets : List ℕ) → AcceptedMessage kind octets → Sent → Sent
+
+abbrev pub lineOf : Sent → List ℕ
+lineOf none-sent = []
+lineOf (sent kind octets accepted later) = sequence kind octets ++ lineOf later
+
+abbrev pub messagesOf : Sent → List Report
+messagesOf none-sent = []
+messagesOf (sent kind octets accepted later) = message kind octets false ∷ messagesOf later
 
 -- a message so many times and nothing else: a menu is agreed from the second time on
 abbrev pub agreesAgain : Kind → Bool
