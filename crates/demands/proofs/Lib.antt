@@ -5,4 +5,5 @@ pub mod OneChoice
 pub mod Undefined
 pub mod WholeCall
 pub mod Repeated
+pub mod Heard
 pub mod WrongPrograms

@@ -114,12 +114,14 @@ unfolding when
 by-fault f line out size true e = (refl, take-at line (drop (length line) out) size (cc))
 by-fault f line out size false e = let z : _≡_ {A = ℕ} 0 1 = cc in absurd (let w : ⊥ = omega arith in w)
 
+pub put-front : (f : ℕ) (line out : List ℕ) (size : ℕ) → put f line out .answer ≡ count size → (f ≡ 0) × (take size (put f line out .buffer) ≡ line)
+unfolding put
+put-front f line out size e = let wrote = by-fault f line out size (eqb f 0) e in (eqb-true f 0 (wrote .0), wrote .1)
+
 pub buffer-read : (kind : Kind) (octets : List ℕ) (n : ℕ) (out : List ℕ) (size : ℕ) → octetsAll octets ≡ true → written kind octets n out .answer ≡ count size
     → reports fresh (take size (written kind octets n out .buffer) ++ tenOnes) ≡ repeated kind octets n
-unfolding put
 buffer-read kind octets n out size small e =
     let line = copies n (sequence kind octets) in
-    let f = before (listFault (Writing kind) octets) (roomFault line out) in
-    let wrote = by-fault f line out size (eqb f 0) e in
-    let fine = before-none (listFault (Writing kind) octets) (roomFault line out) (eqb-true f 0 (wrote .0)) in
+    let wrote = put-front (before (listFault (Writing kind) octets) (roomFault line out)) line out size e in
+    let fine = before-none (listFault (Writing kind) octets) (roomFault line out) (wrote .0) in
     ap (λ (l : List ℕ). reports fresh (l ++ tenOnes)) (wrote .1) ∙ copies-read kind octets (record { octet = small; taken = fine .0 }) n

@@ -1,7 +1,7 @@
 -- A record that was fresh stands where the bits that it heard lead: by the cases of one more bit. So a message is reported only behind ten 1s,
 -- its sync, its octets and ten 1s.
 -- Assumes nothing.
-use Prim.Native.Nat.{ℕ, zero, suc, _<_, _≤_, _+_, _*_, _%_, _/_, _^_}
+use Prim.Native.Nat.{ℕ, zero, suc, _<_, _≤_, _+_, _*_, _-_, _%_, _/_, _^_}
 use native.Mathlib.Numerals.{add-one}
 use native.Mathlib.Nat.{mod-eq-of-lt}
 use native.Mathlib.Omega.{arith}
@@ -10,7 +10,7 @@ use mathlib.Core.Bool.{Bool, true, false}
 use mathlib.Core.List.{List, [], _∷_, _++_, append-assoc, append-nil}
 use borrow.Author.Tests.{eqb-true, eqb-false}
 use lib.Dec.{eqb, ltb, lit<}
-use lib.ListN.{length, take, set, replicate, length-append, length-set}
+use lib.ListN.{length, take, drop, set, replicate, length-append, length-drop, length-set, take-append-drop}
 use lib.Seq.{take-suc-set}
 use Rattle.laws.specs.Logic.{when}
 use Rattle.laws.proofs.Logic.{either-way, clash}
@@ -22,6 +22,7 @@ use Rattle.sequences.proofs.Lines.{framed-append}
 use Rattle.framing.specs.Framing.{value, pushed, lastTen, octetOf, hunting, inSync, lastOfSync, boundary, inOctet, stopPosition, endingOnes, lastOfEnding, report, tellCj, hunted}
 use Rattle.framing.proofs.Words.{hearing}
 use Rattle.framing.proofs.Places.{Places, hunts, inside-sync, accepts, passes-over, opens-octet, opens-end, inside-octet, stop-zero, bad-octet, too-many, stores, cut-short, inside-end, reports as reporting, Asks, no-ask, a-message, a-report, a-refusal, asks, Hunted, goes-by, starts, hunted-as, turning, Turns, tells-cj, is-placed, TurnedAs, turned-as}
+use Rattle.leaps.proofs.Spans.{hearing-number}
 use Rattle.listening.specs.declared.Listener.{Listener}
 use Rattle.listening.specs.declared.Message.{Message}
 use Rattle.listening.specs.Hearing as telling
@@ -33,7 +34,7 @@ use Rattle.stretches.specs.Stretch.{Ends}
 use Rattle.stretches.specs.Hearing.{Report, message, cj, refusal, noted, onceHeard}
 use Rattle.stretches.specs.Heard.{coded, IsOf, Led, syncs, bounds, fills, ends}
 use Rattle.stretches.specs.Heard as led
-use Rattle.stretches.proofs.Each.{Each, none, more as also, each-append, each-left, each-right, Bits, replicate-more}
+use Rattle.stretches.proofs.Each.{Each, none, more as also, each-append, each-left, each-right, each-drop, Bits, replicate-more}
 use Rattle.stretches.proofs.Past.{Small, hearing-small, hearing-append, ten-heard, ones-heard}
 use Rattle.stretches.proofs.Sequences.{sync-bits, framed-bits, framed-value}
 use Rattle.stretches.proofs.Heard.{Knows, heard-turned, past-on, since-fresh, knows-heard}
@@ -47,13 +48,15 @@ same-bits (x ∷ v) (y ∷ w) (also low lows) (also low′ lows′) size number 
     let first : x ≡ y = omega (arith, number) in
     ap₂ _∷_ first (same-bits v w lows lows′ (omega (arith, size)) (omega (arith, number, first)))
 
--- the number of bits with a 1 on top
+-- the number of bits with one more behind them
 twice : (bit : ℕ) (bits : List ℕ) → 2 ^ length (bit ∷ bits) ≡ 2 * 2 ^ length bits
 twice bit bits = let doubled : 2 ^ suc (length bits) ≡ 2 * 2 ^ length bits = omega arith in doubled
 
-value-top : (bits : List ℕ) → value (bits ++ 1 ∷ []) ≡ value bits + 2 ^ length bits
-value-top [] = refl
-value-top (bit ∷ bits) = omega (arith, value-top bits, twice bit bits)
+value-behind : (bits : List ℕ) (last : ℕ) → value (bits ++ last ∷ []) ≡ value bits + last * 2 ^ length bits
+value-behind [] last = omega arith
+value-behind (bit ∷ bits) last =
+    let doubled : last * 2 ^ length (bit ∷ bits) ≡ 2 * (last * 2 ^ length bits) = ap (λ (n : ℕ). last * n) (twice bit bits) ∙ omega arith in
+    omega (arith, value-behind bits last, doubled)
 
 value-low : (bits : List ℕ) → Bits bits → value bits < 2 ^ length bits
 value-low [] none = omega arith
@@ -170,7 +173,7 @@ module _ (sofar : List ℕ) (rec : Listener) (bits-sofar : Bits sofar) (knows : 
       let ten : length w ≡ 10 = omega (arith, length-append data′ (1 ∷ []), eight) in
       let number = ten-there (sequence kind (octetsOf m)) w ten there in
       let data-bits : Bits data′ = each-left data′ (1 ∷ []) (each-right (0 ∷ []) (data′ ++ 1 ∷ []) (number .1)) in
-      let top : value (data′ ++ 1 ∷ []) ≡ value data′ + 256 = value-top data′ ∙ ap (λ (n : ℕ). value data′ + 2 ^ n) eight in
+      let top : value (data′ ++ 1 ∷ []) ≡ value data′ + 256 = value-behind data′ 1 ∙ ap (λ (n : ℕ). value data′ + 1 * 2 ^ n) eight in
       let small : value data′ < 256 = subst (λ (n : ℕ). value data′ < 2 ^ n) eight (value-low data′ data-bits) in
       let is-data : o ≡ value data′ = omega (arith, number .0, top, small) in
       let low-octet : o < 256 = omega (arith, is-data, small) in
@@ -283,3 +286,35 @@ module _ (sofar : List ℕ) (bits-sofar : Bits sofar) (bit : ℕ) (low : bit < 2
   pub reported-stands : noted (heardBit (onceHeard fresh sofar) bit .report) (heardBit (onceHeard fresh sofar) bit .rec .msg) [] ≡ message kind octets flag ∷ [] → Ends (sequence kind octets ++ tenOnes) (sofar ++ bit ∷ [])
   unfolding acted
   reported-stands notes = by-act (eqb (turn .act) report) refl (ap (λ (o : HearOutcome). noted (o .report) (o .rec .msg) []) (sym (heard-turned rec bit (knows-heard sofar bits-sofar .range) low)) ∙ notes)
+
+-- the last ten bits, by their number and by themselves
+module _ (bits : List ℕ) (lows : Bits bits) where
+  pub ten-ends : (word : List ℕ) → length word ≡ 10 → Ends word bits → lastTen (onceHeard fresh bits .ear .past) ≡ value word
+  ten-ends word ten e = ap lastTen (knows-heard bits lows .past) ∙ ends-number [] word bits lows ten e .0
+
+  pub ends-ten : (word : List ℕ) → Bits word → length word ≡ 10 → 10 ≤ length bits → lastTen (onceHeard fresh bits .ear .past) ≡ value word → Ends word bits
+  ends-ten word word-bits ten long number =
+      let last = drop (length bits - 10) bits in
+      let parted : Ends last bits = (take (length bits - 10) bits, take-append-drop (length bits - 10) bits) in
+      let size : length last ≡ 10 = omega (arith, length-drop (length bits - 10) bits) in
+      rw (← (same-bits last word (each-drop (length bits - 10) bits lows) word-bits (size ∙ sym ten) (sym (ten-ends last size parted) ∙ number))) parted
+
+  pub ends-ones : lastTen (onceHeard fresh bits .ear .past) ≡ value tenOnes → Ends tenOnes bits
+  ends-ones number = ones-heard bits lows (ap lastTen (sym (knows-heard bits lows .past)) ∙ number)
+
+  -- the eight bits before the last
+  pub octet-ends : (data′ : List ℕ) (stop : ℕ) → length data′ ≡ 8 → Ends (data′ ++ stop ∷ []) bits → octetOf (onceHeard fresh bits .ear .past) ≡ value data′
+  octet-ends data′ stop eight e =
+      let early = e .0 in
+      let parted : early ++ data′ ++ stop ∷ [] ≡ bits = append-assoc early data′ (stop ∷ []) ∙ e .1 in
+      let early-bits : Bits early = each-left early (data′ ++ stop ∷ []) (rw (e .1) lows) in
+      let data-bits : Bits data′ = each-left data′ (stop ∷ []) (each-right early (data′ ++ stop ∷ []) (rw (e .1) lows)) in
+      let past = hearing 0 early in
+      let nine : length (data′ ++ stop ∷ []) ≡ 9 = length-append data′ (stop ∷ []) ∙ ap (λ (n : ℕ). n + 1) eight in
+      let number : hearing past (data′ ++ stop ∷ []) ≡ past / 2 ^ 9 + value (data′ ++ stop ∷ []) * 2 ^ 23 =
+      hearing-number (data′ ++ stop ∷ []) past (2 ^ 23) (ap (λ (n : ℕ). 2 ^ 23 * 2 ^ n) nine) ∙ ap (λ (n : ℕ). past / 2 ^ n + value (data′ ++ stop ∷ []) * 2 ^ 23) nine in
+      let heard : onceHeard fresh bits .ear .past ≡ hearing past (data′ ++ stop ∷ []) = knows-heard bits lows .past ∙ ap (hearing 0) (sym (e .1)) ∙ hearing-append 0 early (data′ ++ stop ∷ []) in
+      let top : value (data′ ++ stop ∷ []) ≡ value data′ + stop * 256 = value-behind data′ stop ∙ ap (λ (n : ℕ). value data′ + stop * 2 ^ n) eight in
+      let small : value data′ < 256 = subst (λ (n : ℕ). value data′ < 2 ^ n) eight (value-low data′ data-bits) in
+      let past-small = hearing-small 0 early (lit< tt) early-bits in
+      ap octetOf (heard ∙ number) ∙ omega (arith, top, small, past-small)

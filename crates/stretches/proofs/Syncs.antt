@@ -34,7 +34,7 @@ use Rattle.stretches.proofs.Each.{none, more as also, each-append, Bits
 use Rattle.stretches.proofs.Standing.{Table, run, nowhere}
 use Rattle.stretches.proofs.Sequences.{sync-bits}
 use Rattle.stretches.proofs.Heard.{Knows, knows-on, knows-heard, past-on, no-cj-there, heard-turned}
-use Rattle.stretches.proofs.Led.{same-bits, further, one-further, ends-number, sync-length}
+use Rattle.stretches.proofs.Led.{same-bits, further, one-further, ends-number, sync-length, ten-ends}
 
 -- ten 1s stand nowhere in CJ: up to nine 1s since the last 0, or ten have stood
 abbrev tens : Table
@@ -139,18 +139,30 @@ pass-rest (bit ∷ next ∷ rest) u sofar rec knows bits-sofar stands at size so
     (pass-rest (next ∷ rest) (u ++ bit ∷ []) (sofar ++ bit ∷ []) (heardBit rec bit .rec) (knows-on sofar rec knows bit low) (each-append bits-sofar (also low none)) (further bit sofar tenOnes (0 ∷ u) stands) (moved .place)
     (omega (arith, size, length-append u (bit ∷ []))) (omega arith) lows (rw append-assoc other))
 
--- "Any other sync is passed over and hunting resumes."
-pub other-sync : (sofar : List ℕ) → Bits sofar → onceHeard fresh sofar .ear .place ≡ hunting → Ends tenOnes sofar → (later : List ℕ) → Bits later → length later ≡ lastOfSync
-    → ((kind : Kind) → 0 ∷ later ≡ sync kind → ⊥) → PassedOver (onceHeard fresh sofar) (0 ∷ later)
-other-sync sofar bits-sofar at ones later lows nine other =
-    let rec = onceHeard fresh sofar in
-    let knows = knows-heard sofar bits-sofar in
-    let there : Ends (tenOnes ++ 0 ∷ []) (sofar ++ 0 ∷ []) = one-further 0 sofar tenOnes ones in
-    let no-cj = no-cj-there sofar rec knows bits-sofar 0 (lit< tt) (λ e. not-both (0 ∷ []) (sofar ++ 0 ∷ []) (omega arith) e there) in
-    let word : lastTen (rec .ear .past) ≡ value tenOnes = ap lastTen (knows .past) ∙ ends-number [] tenOnes sofar bits-sofar refl ones .0 in
-    let moved = moves rec (knows .range) 0 (lit< tt) inSync no-cj (placed-first (rec .ear .place) _ _ _ 0 at refl word) in
-    pass-more rec (knows .range) 0 (lit< tt) inSync later moved
-    (pass-rest later [] (sofar ++ 0 ∷ []) (heardBit rec 0 .rec) (knows-on sofar rec knows 0 (lit< tt)) (each-append bits-sofar (also (lit< tt) none)) there (moved .place) (omega (arith, nine)) (omega (arith, nine)) lows other)
+module _ (sofar : List ℕ) (bits-sofar : Bits sofar) (at : onceHeard fresh sofar .ear .place ≡ hunting) (ones : Ends tenOnes sofar) where
+  abbrev rec : Listener
+  rec = onceHeard fresh sofar
+
+  knows : Knows sofar rec
+  knows = knows-heard sofar bits-sofar
+
+  started : Ends (tenOnes ++ 0 ∷ []) (sofar ++ 0 ∷ [])
+  started = one-further 0 sofar tenOnes ones
+
+  first-bit : Moves rec (knows .range) 0 (lit< tt) inSync
+  first-bit =
+      moves rec (knows .range) 0 (lit< tt) inSync (no-cj-there sofar rec knows bits-sofar 0 (lit< tt) (λ e. not-both (0 ∷ []) (sofar ++ 0 ∷ []) (omega arith) e started))
+      (placed-first (rec .ear .place) _ _ _ 0 at refl (ten-ends sofar bits-sofar tenOnes refl ones))
+
+  -- "A 0 whose ten preceding heard bits are all 1 starts a sync."
+  pub sync-starts : heardBit (onceHeard fresh sofar) 0 .rec .ear .place ≡ inSync
+  sync-starts = first-bit .place
+
+  -- "Any other sync is passed over and hunting resumes."
+  pub other-sync : (later : List ℕ) → Bits later → length later ≡ lastOfSync → ((kind : Kind) → 0 ∷ later ≡ sync kind → ⊥) → PassedOver (onceHeard fresh sofar) (0 ∷ later)
+  other-sync later lows nine other =
+      pass-more rec (knows .range) 0 (lit< tt) inSync later first-bit
+      (pass-rest later [] (sofar ++ 0 ∷ []) (heardBit rec 0 .rec) (knows-on sofar rec knows 0 (lit< tt)) (each-append bits-sofar (also (lit< tt) none)) started (first-bit .place) (omega (arith, nine)) (omega (arith, nine)) lows other)
 
 -- a byte before the boundary that does not bring it keeps the message
 record Stays (rec : Listener) (o : HearOutcome) : Type 0 where
