@@ -5,20 +5,18 @@ use native.Mathlib.Omega.{arith}
 use mathlib.Core.Path.{_≡_, refl, sym, ap, _∙_}
 use mathlib.Core.Bool.{true}
 use mathlib.Core.List.{List, [], _∷_, _++_, append-assoc}
-use borrow.Author.Tests.{ltb-true}
 use lib.ListN.{drop, getD}
 use Rattle.laws.specs.Logic.{when, both, either}
 use Rattle.laws.specs.Tests.{every}
 use Rattle.octets.specs.declared.Kind.{Kind}
 use Rattle.octets.specs.declared.Kind.the-variants.{Ci, Menu}
 use Rattle.octets.specs.Lists.{firstFault}
-use Rattle.refusals.specs.Lent.{count, roomFault, put}
+use Rattle.refusals.specs.Lent.{count, roomFault}
 use Rattle.sequences.specs.Line.{framed, framedAll, sync, v92Sync}
 use Rattle.sequences.specs.Line.{cj as cjBits}
-use Rattle.sequences.specs.Writing.{writtenCj}
 use Rattle.listening.proofs.Ranges.{range-fits}
-use Rattle.stretches.specs.Stretch.{bitsAll, AcceptedMessage, Ends}
-use Rattle.stretches.proofs.Each.{Each, none, more, each-append, each-left, each-right, Bits, bits-by}
+use Rattle.stretches.specs.Stretch.{bitsAll, AcceptedMessage}
+use Rattle.stretches.proofs.Each.{none, more, each-append, each-left, each-right, Bits, bits-by}
 use Rattle.stretches.proofs.Flags.{fresh-flags}
 use Rattle.stretches.proofs.Copies.{sent-read, copies-read, put-front}
 use Rattle.stretches.proofs.Heard.{are-bits, knows-heard, cj-told, cj-only}

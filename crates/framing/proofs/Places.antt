@@ -6,7 +6,7 @@ use mathlib.Core.Path.{_≡_, refl}
 use mathlib.Core.Bool.{true, false}
 use borrow.Author.Tests.{eqb-true, eqb-false, ltb-true, ltb-false}
 use lib.Dec.{eqb, ltb, lit<}
-use Rattle.laws.specs.Logic.{when, both}
+use Rattle.laws.specs.Logic.{both}
 use Rattle.laws.proofs.Logic.{either-way, both-true}
 use Rattle.octets.specs.declared.Kind.{Kind}
 use Rattle.octets.specs.declared.Kind.the-variants.{Ci, Menu}
@@ -15,7 +15,7 @@ use Rattle.sequences.specs.Line.{tenOnes, sync}
 use Rattle.framing.specs.declared.Ear.{Ear}
 use Rattle.framing.specs.declared.Placed.{Placed}
 use Rattle.framing.specs.declared.Turned.{Turned}
-use Rattle.framing.specs.Framing.{value, pushed, more, lastTen, octetOf, isCj, hunting, inSync, lastOfSync, boundary, inOctet, stopPosition, endingOnes, lastOfEnding, nothing, startCi, startMenu, store, report, tellCj, refusalAct, go, hunted, synced, bounded, stopped, ended, placed, turned}
+use Rattle.framing.specs.Framing.{value, pushed, more, lastTen, octetOf, isCj, hunting, inSync, lastOfSync, boundary, inOctet, stopPosition, endingOnes, lastOfEnding, nothing, startCi, startMenu, store, report, tellCj, refusalAct, hunted, synced, bounded, stopped, ended, placed, turned}
 
 -- the act that accepts a sync
 abbrev pub startOf : Kind → ℕ

@@ -1,9 +1,9 @@
 -- Accepted messages with ten 1s behind them, and copies of one: a fresh reader reports each, and nothing else. Each one's ten 1s end the one
 -- before it, and the ten 1s behind them the last; CJ stands nowhere in them, so a reader that does not listen for it makes the same of them.
 -- Assumes nothing.
-use Prim.Native.Nat.{ℕ, zero, suc, _≤_, _+_}
+use Prim.Native.Nat.{ℕ, zero, suc, _≤_}
 use native.Mathlib.Omega.{arith}
-use mathlib.Core.Path.{_≡_, refl, ap, subst, _∙_}
+use mathlib.Core.Path.{_≡_, refl, ap, _∙_}
 use mathlib.Core.Bool.{Bool, true, false}
 use mathlib.Core.List.{List, [], _∷_, _++_, append-assoc}
 use borrow.Author.Tests.{eqb-true}
@@ -16,16 +16,14 @@ use Rattle.octets.specs.declared.Kind.{Kind}
 use Rattle.octets.specs.declared.Purpose.the-variants.{Writing}
 use Rattle.refusals.specs.Refusals.{before}
 use Rattle.octets.specs.Lists.{listFault}
-use Rattle.sequences.specs.Line.{framedAll, tenOnes, sync, sequence, copies, cj}
-use Rattle.sequences.proofs.Lines.{copies-more}
+use Rattle.sequences.specs.Line.{framedAll, tenOnes, sequence, copies}
 use Rattle.refusals.specs.Lent.{count, refusal, WriteOutcome, roomFault, put}
 use Rattle.sequences.specs.Writing.{written}
 use Rattle.listening.specs.declared.Listener.{Listener}
 use Rattle.listening.specs.Record.{empty, fresh}
-use Rattle.stretches.specs.Stretch.{octetsAll, AcceptedMessage, Nowhere}
+use Rattle.stretches.specs.Stretch.{octetsAll, AcceptedMessage}
 use Rattle.stretches.specs.Hearing.{Report, message, reports, nothing, flagged, Sent, none-sent, sent, lineOf, messagesOf, repeated}
-use Rattle.stretches.proofs.Each.{Each, none, more, each-append, Bits, replicate-more}
-use Rattle.stretches.proofs.Standing.{nowhere-left}
+use Rattle.stretches.proofs.Each.{Each, none, more, each-append, Bits}
 use Rattle.octets.proofs.Lists.{before-none}
 use Rattle.stretches.proofs.Sound.{Sound, accepted-sound, accepted-length}
 use Rattle.stretches.proofs.Words.{no-cj-sent}

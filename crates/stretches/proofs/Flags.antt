@@ -1,28 +1,26 @@
 -- Which menus are agreed follows from the messages that a fresh reader reports: of each record since, the message reported last is that of
 -- the reports so far, and whatever is being heard behind a sync has the kind of that sync.
 -- Assumes nothing.
-use Prim.Native.Nat.{ℕ, zero, suc, _<_, _≤_}
+use Prim.Native.Nat.{ℕ, zero, suc, _≤_}
 use native.Mathlib.Omega.{arith}
 use mathlib.Core.Path.{_≡_, refl, sym, ap, ap₂, subst, _∙_}
 use mathlib.Core.Bool.{Bool, true, false}
 use mathlib.Core.List.{List, [], _∷_}
-use borrow.Author.Tests.{ltb-true, ltb-false, le-ltb, eqb-true, eqb-false, eq-eqb}
-use lib.Dec.{ltb, eqb, lit<}
+use borrow.Author.Tests.{ltb-true, eq-eqb}
+use lib.Dec.{ltb}
 use lib.ListN.{replicate}
 use Rattle.laws.specs.Logic.{when, both}
 use Rattle.laws.specs.Tests.{sameList}
-use Rattle.laws.proofs.Logic.{either-way, both-neither}
+use Rattle.laws.proofs.Logic.{both-neither}
 use Rattle.octets.specs.declared.Kind.{Kind}
 use Rattle.octets.specs.declared.Kind.the-variants.{Ci, Menu}
 use Rattle.octets.specs.Lists.{readable}
-use Rattle.framing.specs.declared.Ear.{Ear}
-use Rattle.framing.specs.declared.Turned.{Turned}
-use Rattle.framing.specs.Framing.{nothing as idle, startCi, startMenu, store, report, tellCj, refusalAct, refusalIn, hunting, boundary, pushed, turned}
-use Rattle.framing.proofs.Places.{Places, hunts, inside-sync, accepts, passes-over, opens-octet, opens-end, inside-octet, stop-zero, bad-octet, too-many, stores, cut-short, inside-end, reports as reporting, placed-as, Hunted, goes-by, starts, hunted-as, hunted-low, turning, Turns, tells-cj, is-placed, turned-as}
+use Rattle.framing.specs.Framing.{nothing as idle, startCi, startMenu, store, report, tellCj, refusalAct, refusalIn, hunting, boundary, pushed}
+use Rattle.framing.proofs.Places.{Places, hunts, inside-sync, accepts, passes-over, opens-octet, opens-end, inside-octet, stop-zero, bad-octet, too-many, stores, cut-short, inside-end, reports as reporting, hunted-low, turning, Turns, tells-cj, is-placed, turned-as}
 use Rattle.listening.specs.declared.Message.{Message}
 use Rattle.listening.specs.declared.Listener.{Listener}
 use Rattle.listening.specs.Hearing as telling
-use Rattle.listening.specs.Hearing.{Told, silence, ci, menu, HearOutcome, octetsOf, changed, agreed, reported, told, toldAlone, acted, heardIn, heardBit}
+use Rattle.listening.specs.Hearing.{HearOutcome, octetsOf, changed, agreed, reported, told, toldAlone, acted, heardIn, heardBit}
 use Rattle.listening.specs.Record.{inRange, fresh}
 use Rattle.listening.proofs.Acts.{heard-not-a-bit}
 use Rattle.listening.proofs.Ranges.{fits-range, fresh-fits, heard-range, heard-inside}

@@ -1,9 +1,9 @@
 -- What a record that was fresh knows of the bits that it heard since: how many, up to thirty, and the last ones as its past. So CJ is told
 -- exactly where the last thirty bits are CJ.
 -- Assumes nothing.
-use Prim.Native.Nat.{ℕ, zero, suc, _<_, _≤_, _+_, _*_, _-_, _/_, _^_}
+use Prim.Native.Nat.{ℕ, _<_, _≤_, _+_, _*_, _/_, _^_}
 use native.Mathlib.Omega.{arith}
-use mathlib.Core.Path.{_≡_, refl, sym, ap, ap₂, subst, _∙_}
+use mathlib.Core.Path.{_≡_, refl, sym, ap, _∙_}
 use mathlib.Core.Bool.{Bool, true, false}
 use mathlib.Core.List.{List, [], _∷_, _++_, append-assoc, append-nil}
 use borrow.Author.Tests.{le-ltb, ltb-true, ltb-false, eqb-true, eq-eqb}
@@ -14,13 +14,13 @@ use Rattle.laws.specs.Tests.{every}
 use Rattle.laws.proofs.Logic.{either-way, both-true, clash}
 use Rattle.sequences.specs.Line.{cj as cjBits}
 use Rattle.sequences.proofs.Lines.{cj-length}
-use Rattle.framing.specs.Framing.{value, pushed, more, isCj, turned, report, tellCj}
+use Rattle.framing.specs.Framing.{value, pushed, more, isCj, report, tellCj}
 use Rattle.framing.proofs.Words.{hearing}
 use Rattle.framing.proofs.Places.{Asks, no-ask, a-message, a-report, a-refusal, asks, turning, Turns, tells-cj, is-placed, TurnedAs, turned-as}
 use Rattle.leaps.proofs.Spans.{hearing-number}
 use Rattle.listening.specs.declared.Listener.{Listener}
 use Rattle.listening.specs.declared.Message.{Message}
-use Rattle.listening.specs.Hearing.{Told, silence, ci, menu, cj, refusal, HearOutcome, changed, reported, told, toldAlone, acted, heardIn, heardBit}
+use Rattle.listening.specs.Hearing.{Told, silence, ci, menu, cj, refusal, HearOutcome, reported, told, toldAlone, acted, heardIn, heardBit}
 use Rattle.listening.specs.Record.{inRange, fresh}
 use Rattle.listening.proofs.Ranges.{fits-range, fresh-fits, heard-range, heard-inside}
 use Rattle.stretches.specs.Stretch.{bitsAll, Ends}

@@ -1,7 +1,7 @@
 -- A record that was fresh stands where the bits that it heard lead: by the cases of one more bit. So a message is reported only behind ten 1s,
 -- its sync, its octets and ten 1s.
 -- Assumes nothing.
-use Prim.Native.Nat.{ℕ, zero, suc, _<_, _≤_, _+_, _*_, _-_, _%_, _/_, _^_}
+use Prim.Native.Nat.{ℕ, suc, _<_, _≤_, _+_, _*_, _-_, _%_, _/_, _^_}
 use native.Mathlib.Numerals.{add-one}
 use native.Mathlib.Nat.{mod-eq-of-lt}
 use native.Mathlib.Omega.{arith}
@@ -16,26 +16,25 @@ use Rattle.laws.specs.Logic.{when}
 use Rattle.laws.proofs.Logic.{either-way, clash}
 use Rattle.octets.specs.declared.Kind.{Kind}
 use Rattle.octets.specs.declared.Kind.the-variants.{Ci, Menu}
-use Rattle.octets.specs.Octets.{b0, b1, b2, b3, b4, b5, b6, b7}
 use Rattle.sequences.specs.Line.{framed, framedAll, tenOnes, sync, sequence}
 use Rattle.sequences.proofs.Lines.{framed-append}
-use Rattle.framing.specs.Framing.{value, pushed, lastTen, octetOf, hunting, inSync, lastOfSync, boundary, inOctet, stopPosition, endingOnes, lastOfEnding, report, tellCj, hunted}
+use Rattle.framing.specs.Framing.{value, pushed, lastTen, octetOf, inSync, lastOfSync, boundary, inOctet, stopPosition, endingOnes, report, tellCj}
 use Rattle.framing.proofs.Words.{hearing}
-use Rattle.framing.proofs.Places.{Places, hunts, inside-sync, accepts, passes-over, opens-octet, opens-end, inside-octet, stop-zero, bad-octet, too-many, stores, cut-short, inside-end, reports as reporting, Asks, no-ask, a-message, a-report, a-refusal, asks, Hunted, goes-by, starts, hunted-as, turning, Turns, tells-cj, is-placed, TurnedAs, turned-as}
+use Rattle.framing.proofs.Places.{Places, hunts, inside-sync, accepts, passes-over, opens-octet, opens-end, inside-octet, stop-zero, bad-octet, too-many, stores, cut-short, inside-end, reports as reporting, Asks, no-ask, a-message, a-report, a-refusal, asks, Hunted, goes-by, starts, hunted-as, Turns, tells-cj, is-placed, TurnedAs, turned-as}
 use Rattle.leaps.proofs.Spans.{hearing-number}
 use Rattle.listening.specs.declared.Listener.{Listener}
 use Rattle.listening.specs.declared.Message.{Message}
 use Rattle.listening.specs.Hearing as telling
 use Rattle.listening.specs.Hearing.{Told, silence, HearOutcome, octetsOf, stored, changed, agreed, reported, told, toldAlone, acted, heardBit}
 use Rattle.listening.proofs.Acts.{told-report, told-other}
-use Rattle.listening.specs.Record.{inRange, fresh}
+use Rattle.listening.specs.Record.{fresh}
 use Rattle.listening.proofs.Ranges.{range-fits}
 use Rattle.stretches.specs.Stretch.{Ends}
 use Rattle.stretches.specs.Hearing.{Report, message, cj, refusal, noted, onceHeard}
 use Rattle.stretches.specs.Heard.{coded, IsOf, Led, syncs, bounds, fills, ends}
 use Rattle.stretches.specs.Heard as led
-use Rattle.stretches.proofs.Each.{Each, none, more as also, each-append, each-left, each-right, each-drop, Bits, replicate-more}
-use Rattle.stretches.proofs.Past.{Small, hearing-small, hearing-append, ten-heard, ones-heard}
+use Rattle.stretches.proofs.Each.{none, more as also, each-append, each-left, each-right, each-drop, Bits, replicate-more}
+use Rattle.stretches.proofs.Past.{hearing-small, hearing-append, ten-heard, ones-heard}
 use Rattle.stretches.proofs.Sequences.{sync-bits, framed-bits, framed-value}
 use Rattle.stretches.proofs.Heard.{Knows, heard-turned, past-on, since-fresh, knows-heard}
 
@@ -89,9 +88,10 @@ pub ends-number : (a w bits : List ℕ) → Bits bits → length w ≡ 10 → En
 ends-number a w bits lows ten e =
     let early = e .0 ++ a in
     let parted : early ++ w ≡ bits = append-assoc (e .0) a w ∙ e .1 in
-    let early-bits : Bits early = each-left early w (rw parted lows) in
-    (ap (λ (l : List ℕ). lastTen (hearing 0 l)) (sym parted) ∙ ap lastTen (hearing-append 0 early w) ∙ ten-heard (hearing 0 early) w (hearing-small 0 early (lit< tt) early-bits) ten,
-    each-right early w (rw parted lows))
+    let early-bits : Bits early = each-left early w (rw parted lows) in (
+      ap (λ (l : List ℕ). lastTen (hearing 0 l)) (sym parted) ∙ ap lastTen (hearing-append 0 early w) ∙ ten-heard (hearing 0 early) w (hearing-small 0 early (lit< tt) early-bits) ten,
+      each-right early w (rw parted lows),
+    )
 
 -- what led to each part of the framing
 module _ {R : Type 0} {bits : List ℕ} {m : Message} {place : ℕ} where
@@ -186,27 +186,33 @@ module _ (sofar : List ℕ) (rec : Listener) (bits-sofar : Bits sofar) (knows : 
   placed-led : {to act : ℕ} → Places (rec .ear .place) (rec .ear .past) past (rec .msg .len) bit to act → (Led heard (changed (rec .msg) act past) to) × (length (changed (rec .msg) act past .octets) ≡ 64)
   unfolding changed when
   placed-led (hunts at) = (by-hunted (rec .msg) (hunted-as (rec .ear .past) bit), full)
-  placed-led (inside-sync some few) =
-      (in-sync led-there some (omega arith)
-      (λ later short stands is. syncs (later ++ bit ∷ []) (omega (arith, length-append later (bit ∷ []), is)) (further bit sofar tenOnes (0 ∷ later) stands) (omega (arith, length-append later (bit ∷ []), is))), full)
+  placed-led (inside-sync some few) = (
+    in-sync led-there some (omega arith)
+        (λ later short stands is. syncs (later ++ bit ∷ []) (omega (arith, length-append later (bit ∷ []), is)) (further bit sofar tenOnes (0 ∷ later) stands) (omega (arith, length-append later (bit ∷ []), is))),
+    full,
+  )
   placed-led (accepts Ci at word) = (accepted Ci at word, full)
   placed-led (accepts Menu at word) = (accepted Menu at word, full)
   placed-led (passes-over at not-ci not-menu) = (led.hunts refl, full)
   placed-led (opens-octet at is-zero) = (at-boundary led-there at (λ kind of stands. fills kind [] of (lit< tt) (rw is-zero (one-further 0 sofar (sequence kind (octetsOf (rec .msg))) stands)) refl), full)
   placed-led (opens-end at one) = (at-boundary led-there at (λ kind of stands. ends kind 0 of (lit< tt) (rw (is-one one) (one-further 1 sofar (sequence kind (octetsOf (rec .msg))) stands)) refl), full)
-  placed-led (inside-octet some few) =
-      (in-octet led-there some (omega arith)
-      (λ kind data′ of short stands is.
-      fills kind (data′ ++ bit ∷ []) of (omega (arith, length-append data′ (bit ∷ []), is)) (further bit sofar (sequence kind (octetsOf (rec .msg))) (0 ∷ data′) stands) (omega (arith, length-append data′ (bit ∷ []), is))), full)
+  placed-led (inside-octet some few) = (
+    in-octet led-there some (omega arith)
+        (λ kind data′ of short stands is.
+        fills kind (data′ ++ bit ∷ []) of (omega (arith, length-append data′ (bit ∷ []), is)) (further bit sofar (sequence kind (octetsOf (rec .msg))) (0 ∷ data′) stands) (omega (arith, length-append data′ (bit ∷ []), is))),
+    full,
+  )
   placed-led (stop-zero at is-zero) = (led.hunts refl, full)
   placed-led (bad-octet at one is-bad) = (led.hunts refl, full)
   placed-led (too-many at one too-full) = (led.hunts refl, full)
   placed-led (stores at one fine room) = (filled at one room, length-set (rec .msg .octets) (rec .msg .len % 64) (octetOf past) ∙ full)
   placed-led (cut-short some is-zero) = (by-hunted (rec .msg) (hunted-as (rec .ear .past) bit), full)
-  placed-led (inside-end some few one) =
-      (in-end led-there some
-      (λ kind n of short stands is.
-      ends kind (suc n) of (omega (arith, is)) (rw (is-one one) (rw (← (replicate-more {A = ℕ} n 1)) (further 1 sofar (sequence kind (octetsOf (rec .msg))) (1 ∷ replicate n 1) stands))) (omega (arith, is))), full)
+  placed-led (inside-end some few one) = (
+    in-end led-there some
+        (λ kind n of short stands is.
+        ends kind (suc n) of (omega (arith, is)) (rw (is-one one) (rw (← (replicate-more {A = ℕ} n 1)) (further 1 sofar (sequence kind (octetsOf (rec .msg))) (1 ∷ replicate n 1) stands))) (omega (arith, is))),
+    full,
+  )
   placed-led (reporting late one) = (led.hunts refl, full)
 
   turned-led : {to act : ℕ} → Turns (rec .ear) (rec .msg .len) bit to act → (Led heard (changed (rec .msg) act past) to) × (length (changed (rec .msg) act past .octets) ≡ 64)

@@ -3,18 +3,16 @@
 -- Assumes nothing.
 use Prim.Native.Nat.{ℕ, zero, suc, _<_, _≤_, _+_, _-_}
 use native.Mathlib.Omega.{arith}
-use mathlib.Core.Path.{_≡_, refl, sym, ap, subst, _∙_}
-use mathlib.Core.Bool.{Bool, true, false}
+use mathlib.Core.Path.{_≡_, refl, sym, ap, _∙_}
+use mathlib.Core.Bool.{true}
 use mathlib.Core.List.{List, [], _∷_, _++_}
 use lib.ListN.{length, drop, length-drop}
 use lib.Seq.{drop-nil}
-use Rattle.laws.specs.Logic.{when}
 use Rattle.laws.specs.Joined.{joined}
 use Rattle.laws.proofs.Logic.{either-way, clash}
 use Rattle.listening.specs.declared.Listener.{Listener}
-use Rattle.listening.specs.Hearing.{Told, silence, ci, menu, cj, refusal, ManyOutcome, taking, heardIn, heardBit, silent, listened, heardBits}
-use Rattle.listening.specs.Record.{inRange}
-use Rattle.listening.proofs.Ranges.{Fits, range-fits, fits-range, heard-in-fits, heard-inside}
+use Rattle.listening.specs.Hearing.{Told, silence, ci, menu, cj, refusal, ManyOutcome, taking, heardIn, silent, listened, heardBits}
+use Rattle.listening.proofs.Ranges.{Fits, fits-range, heard-in-fits, heard-inside}
 use Rattle.listening.proofs.Many.{listened-takes, listened-fits, bits-in}
 use Rattle.stretches.specs.Hearing.{Report, noted, reports, Handed, all, taken, call}
 

@@ -1,13 +1,13 @@
 -- A sync of another kind than ours is passed over, and stored octets stay until the next sync that is accepted. While a sync is heard the ten
 -- 1s before it stand among the last twenty bits, so these are no part of CJ.
 -- Assumes nothing.
-use Prim.Native.Nat.{ℕ, zero, suc, _<_, _≤_, _+_, _-_}
+use Prim.Native.Nat.{ℕ, suc, _<_, _≤_, _+_}
 use native.Mathlib.Omega.{arith}
-use mathlib.Core.Path.{_≡_, refl, sym, ap, subst, _∙_}
+use mathlib.Core.Path.{_≡_, refl, sym, ap, _∙_}
 use mathlib.Core.Bool.{Bool, true, false}
 use mathlib.Core.List.{List, [], _∷_, _++_, append-assoc}
 use borrow.Author.Tests.{lt-ltb, le-ltb, ltb-true, ltb-false, eq-eqb, ne-eqb}
-use lib.Dec.{ltb, eqb, lit<}
+use lib.Dec.{ltb, lit<}
 use lib.ListN.{length, drop, length-append, replicate}
 use lib.Seq.{drop-append-le, drop-append-add}
 use Rattle.laws.specs.Logic.{when, both}
@@ -17,11 +17,9 @@ use Rattle.octets.specs.declared.Kind.{Kind}
 use Rattle.octets.specs.declared.Kind.the-variants.{Ci, Menu}
 use Rattle.sequences.specs.Line.{framed, framedAll, tenOnes, sync, cj}
 use Rattle.sequences.proofs.Lines.{cj-length}
-use Rattle.framing.specs.Framing.{value, pushed, more, lastTen, isCj, hunting, inSync, lastOfSync, boundary, nothing, startCi, startMenu, store, go, hunted, synced, placed, turned}
-use Rattle.framing.proofs.Words.{hearing}
+use Rattle.framing.specs.Framing.{value, pushed, more, lastTen, isCj, hunting, inSync, lastOfSync, boundary, nothing, go, hunted, synced, placed, turned}
 use Rattle.framing.proofs.Places.{Asks, no-ask, a-message, a-report, a-refusal, asks, turning, Turns, tells-cj, is-placed, turned-as}
 use Rattle.listening.specs.declared.Listener.{Listener}
-use Rattle.listening.specs.declared.Message.{Message}
 use Rattle.listening.specs.Hearing.{HearOutcome, changed, told, toldAlone, acted, heardIn, heardBit, silent}
 use Rattle.listening.specs.Record.{inRange, fresh}
 use Rattle.listening.proofs.Acts.{changed-not, heard-not-a-bit}

@@ -1,5 +1,5 @@
 -- Document 01, 'Listening', said of the bits that a record heard since it was fresh: what led to its place in the framing, and to its octets.
-use Prim.Native.Nat.{ℕ, _+_, _<_, _≤_}
+use Prim.Native.Nat.{ℕ, _+_, _<_}
 use mathlib.Core.Path.{_≡_}
 use mathlib.Core.List.{List, [], _∷_, _++_}
 use lib.ListN.{length, replicate}
