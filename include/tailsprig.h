@@ -18,9 +18,9 @@
  *   - Every call is proved: it takes every input, reads and writes only what it is lent, and always returns. Inputs are
  *     values: numbers, bytes and structs, whatever they hold. Pointers are none: they have to be good.
  *   - So it is for the host to see to it that a pointer is not NULL, not even with a length of 0; that it points at as
- *     many bytes as its length says, or at a struct of its type; and that what is lent for writing overlaps nothing
- *     else that is lent to the same call. NULL, a length that lies and overlap are outside the promise: no call can
- *     test them.
+ *     many bytes as its length says, or at a struct of its type; that what is lent for writing overlaps nothing else
+ *     that is lent to the same call; and that nothing else writes there while the call runs. NULL, a length that lies
+ *     and overlap are outside the promise: no call can test them.
  *   - An argument that is wider than its parameter is the compiler's to convert, before the library sees it: 258 for a
  *     uint8_t arrives as 2, and 65,536 copies as 0. The compiler can warn of it (-Wconversion).
  *   - A bit is a byte of value 0 or 1.
