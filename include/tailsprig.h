@@ -396,7 +396,7 @@ int32_t tailsprig_choice(const uint8_t *cm, size_t cm_len, const uint8_t *jm, si
  * State             sends                 is ended by                                       at the latest, by a tick
  *
  * 1 CALLER_STILL    nothing                                                                 1,000 ms: CALLING
- * 2 CALLING         CI, CT, CNG, nothing  ANSam: QUIET. ANS, sigA: OVER, left               no limit
+ * 2 CALLING         CI, CT, CNG or none   ANSam: QUIET. ANS, sigA: OVER, left               no limit
  * 3 QUIET           nothing                                                                 Te: MENU
  * 4 MENU            CM, over and over     agreed JM: CLOSING; with -11: OVER, not offered   10,000 ms: OVER, late
  * 5 CLOSING         CJ, once              CJ sent: PAUSE; choice none: OVER, cleared        no limit

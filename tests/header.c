@@ -1,7 +1,7 @@
 /*
  * The header held against the library. First the sizes and places of what the header declares, and every number with a name: these fail
- * when this is compiled. Then a call of each function with an answer that was made by hand, in which no two fields of a struct that have
- * one type hold the same number: where the header and the archive differ, an answer is wrong. Exits with 1 where one was.
+ * when this is compiled. Then calls of each function, with answers that were made by hand. They tell every two fields of a struct apart:
+ * where the header and the library differ, an answer is wrong. Exits with 1 where one was.
  *
  * With CALLS_ALONE the first part is left out, so that tests/header.sh can see that the calls notice by themselves.
  */
@@ -581,6 +581,11 @@ static void the_caller(void)
     CHECK(tailsprig_start_caller(5, 5001).code == -TAILSPRIG_BAD_RECORD);
     other = tailsprig_start_caller_default(9);
     CHECK(other.entry == 9 && other.te == 500 && other.end == TAILSPRIG_CALLER);
+
+    /* With a Te of 5,000 CM starts no sooner than ANSam ends, even where the caller hears ANSam at once. */
+    other = tailsprig_start_caller(0, 5000).session;
+    CHECK(ends_at(&other, 1000, TAILSPRIG_STATE_CALLING));
+    CHECK(after(&other, TAILSPRIG_EVENT_ANSAM, 0, 0) == TAILSPRIG_STATE_QUIET && ends_at(&other, 5000, TAILSPRIG_STATE_MENU));
 
     /* A tone that is told once, too early, is lost. */
     CHECK(after(&session, TAILSPRIG_EVENT_ANSAM, 0, 999) == 0);

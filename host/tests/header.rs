@@ -1,6 +1,6 @@
-//! What the sources of the library declare stands in the header, in the C test of the header and in this package alike: the same structs
-//! with the same fields in the same order, the same functions, the same numbers. The compiler holds the header against `tests/header.c`
-//! (`tests/header.sh`); here the numbers of that file are computed from the sources.
+//! What the sources of the library declare stands in the header, in the C test of the header and in this package alike: the
+//! same structs with the same fields in the same order, the same functions, the same numbers. The compiler holds the header
+//! against `tests/header.c` (`tests/header.sh`); here the numbers of that file are computed from the sources.
 use std::{
     collections::BTreeMap,
     fs,
@@ -309,8 +309,9 @@ fn constant(krate: &str, name: &str) -> i64 {
 fn the_numbers_are_those_of_the_sources() {
     let numbers = numbers_of_the_header();
     let number = |name: &str| numbers[&format!("TAILSPRIG_{name}")];
-    for (prefix, name) in [("STATE_", "tailsprig_state"), ("EVENT_", "tailsprig_event"), ("ENDED_", "tailsprig_ended"), ("", "tailsprig_end")] {
-        for (name, number) in numbers_of(name, &numbers) {
+    let of_steps = [("state", "STATE_"), ("event", "EVENT_"), ("ended", "ENDED_"), ("end", "")];
+    for (kind, prefix) in of_steps {
+        for (name, number) in numbers_of(&format!("tailsprig_{kind}"), &numbers) {
             let name = name.strip_prefix(&format!("TAILSPRIG_{prefix}")).expect("a name of its enum");
             assert_eq!(number, constant("steps", name), "{name}");
         }
@@ -332,6 +333,45 @@ fn the_numbers_are_those_of_the_sources() {
         assert_eq!(number(in_header), constant(krate, name), "{in_header}");
     }
     assert_eq!(number("MOST_BITS"), constant("sequences", "PREAMBLE") + number("OCTET_BITS") * number("MOST_OCTETS"));
+}
+
+/// The rows of the steps' table for a state and a tick: the milliseconds, the condition and the next state.
+fn ticks_of(state: &str) -> Vec<(u32, String, String)> {
+    let source = source("steps");
+    let (_, table) = source.split_once("const ROWS").expect("the table");
+    let field = |row: &str, name: &str, end: char| {
+        let rest = row.split_once(&format!(" {name}: ")).unwrap_or_else(|| panic!("no {name}: {row}")).1;
+        rest.split(end).next().unwrap_or_default().trim_start_matches("To(").to_string()
+    };
+    let rows = table.split("];").next().unwrap_or_default().split("Row {").skip(1);
+    rows.filter(|row| field(row, "state", ',') == state && field(row, "event", ',') == "TICK")
+        .map(|row| (field(row, "least", ',').parse().expect("a number"), field(row, "condition", ','), field(row, "to", ',')))
+        .collect()
+}
+
+#[test]
+fn the_limits_in_the_manual_are_those_of_the_table() {
+    let manual = read("include/tailsprig.h");
+    let head = manual.lines().find(|line| line.starts_with(" * State ")).expect("the table of states");
+    let limits = head.find("at the latest").expect("its last column");
+    for (name, number) in numbers_of("tailsprig_state", &Numbers::new()) {
+        let state = name.strip_prefix("TAILSPRIG_STATE_").expect("a state");
+        if state == "OVER" {
+            continue;
+        }
+        let row = manual.lines().find(|line| line.starts_with(&format!(" * {number} {state} ")));
+        let said = &row.unwrap_or_else(|| panic!("no row for {state}"))[limits..];
+        let expected = match ticks_of(state).as_slice() {
+            [] => "no limit".to_string(),
+            [(0, condition, next)] if condition == "TE_ELAPSED" => format!("Te: {next}"),
+            [(least, condition, next)] if condition == "ALWAYS" => match least / 1000 {
+                0 => format!("{least} ms: {next}"),
+                thousands => format!("{thousands},{:03} ms: {next}", least % 1000),
+            },
+            rows => panic!("{state}: {rows:?}"),
+        };
+        assert!(said.starts_with(&expected), "{state}: {said}, and not {expected}");
+    }
 }
 
 #[test]
