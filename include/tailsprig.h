@@ -421,8 +421,10 @@ int32_t tailsprig_choice(const uint8_t *cm, size_t cm_len, const uint8_t *jm, si
  *   Tones.  A line card tells a tone for as long as it hears it, at every tick say, and not only when it begins: ANSam
  *     that is told once, while the caller is in CALLER_STILL, is answered 0 and lost.
  *   Menus.  They are sent until the state changes and never a count of copies: other ends may need more than two.
- *     Where a menu is agreed in MENU or ANSWERING, the host asks tailsprig_choice, at the answerer behind tailsprig_jm,
- *     and hands over what it answers. An agreed menu in another state asks for nothing.
+ *   Reports.  Where a menu is agreed in MENU or ANSWERING, the host asks tailsprig_choice, at the answerer behind
+ *     tailsprig_jm, and hands over what it answers. CJ that the answerer hears is handed over as it is. All else that
+ *     is heard asks for nothing: CI, a menu that is not agreed, a refusal, an agreed menu in another state, and CJ at
+ *     the caller.
  *   From CM to CJ.  The caller first finishes the octet that it is sending, with its stop bit, and then sends CJ
  *     (8.1.2). Its copy goes by tens (TAILSPRIG_OCTET_BITS), the ten 1s and the sync too, so it goes on to the next
  *     multiple of ten. It hands over CJ_SENT once the last bit of CJ is on the line.

@@ -14,13 +14,13 @@ pub struct Menu {
     pub len: usize,
 }
 
-// The session, the CM or JM of this end, how many bits are sent of a copy of what it sends, how many of them are still to come before
-// CJ, the bit that it sends now, and the last report of its listener.
+// The session, the CM or JM of this end, how many bits are sent of a copy of what it sends, how many of that copy come before CJ yet, the
+// bit that it sends now, and the last report of its listener.
 pub struct End {
     pub session: Session,
     pub menu: Menu,
     pub sent: usize,
-    pub left: usize,
+    pub before_cj: usize,
     pub bit: u8,
     pub told: u8,
 }
@@ -65,7 +65,7 @@ pub fn begin(session: Session, menu: Menu) -> End {
         session: session,
         menu: menu,
         sent: 0,
-        left: 0,
+        before_cj: 0,
         bit: 1,
         told: TOLD_NOTHING,
     }
@@ -76,9 +76,9 @@ fn tell_state(now: u32, session: Session, menu: Menu) {
     telling::tell_state(now, session, part(&octets, 0, menu.len));
 }
 
-// How many bits of a menu are still to come when a state is entered. The caller finishes the octet that it is sending, with its stop
-// bit, before CJ (V.8, 8.1.2); the ten 1s and the sync are ten bits as well. Anything else is cut off where it is.
-fn bits_left(state: u8, sent: usize) -> usize {
+// How many bits of a menu are sent before CJ when a state is entered. The caller finishes the octet that it is sending, with its stop
+// bit (V.8, 8.1.2); the ten 1s and the sync are ten bits as well. Anything else is cut off where it is.
+fn bits_before_cj(state: u8, sent: usize) -> usize {
     if state == steps::CLOSING {
         return (10 - sent % 10) % 10;
     }
@@ -95,11 +95,11 @@ fn step(end: End, event: u8, value: u8, now: u32) -> End {
     }
     let menu = end.menu;
     tell_state(now, after, menu);
-    let left = bits_left(after.state, end.sent);
+    let before_cj = bits_before_cj(after.state, end.sent);
     let mut next = end;
     next.session = after;
-    next.left = left;
-    if left == 0 {
+    next.before_cj = before_cj;
+    if before_cj == 0 {
         next.sent = 0;
     }
     next
@@ -119,17 +119,17 @@ fn tick(end: End, across: u8, now: u32) -> End {
     next
 }
 
-// Sends the next bit of those that are left of a menu; CJ starts behind the last.
+// Sends the next bit of a menu before CJ, which starts behind the last of them.
 fn finish(end: End, bits: &[u8; 90]) -> End {
     let sent = end.sent;
-    let left = end.left;
+    let before_cj = end.before_cj;
     let mut next = end;
-    next.left = 0;
+    next.before_cj = 0;
     next.sent = 0;
     if sent < 90 {
         next.bit = bits[sent];
-        if 1 < left {
-            next.left = left - 1;
+        if 1 < before_cj {
+            next.before_cj = before_cj - 1;
             next.sent = sent + 1;
         }
     }
@@ -158,7 +158,7 @@ fn send_next(end: End, now: u32) -> End {
     let session = end.session;
     let menu = end.menu;
     let mut bits = [1u8; 90];
-    if 0 < end.left {
+    if 0 < end.before_cj {
         write_copy(steps::MENU, menu, &mut bits);
         return finish(end, &bits);
     }
