@@ -16,7 +16,8 @@
  *   - Link libtailsprig.a or libtailsprig.so (x86-64 Linux). The library keeps no state, allocates nothing and reads no
  *     clock, so calls on different memory may run at the same time.
  *   - Every call is proved: it takes every input, reads and writes only what it is lent, and always returns. Inputs are
- *     values: numbers, bytes and structs, whatever they hold. Pointers are none: they have to be good.
+ *     values: numbers, bytes and structs, whatever they hold. Pointers are none: they have to be good. docs/TRUST.md
+ *     says what has to be believed for that.
  *   - So it is for the host to see to it that a pointer is not NULL, not even with a length of 0; that it points at as
  *     many bytes as its length says, or at a struct of its type; that what is lent for writing overlaps nothing else
  *     that is lent to the same call; and that nothing else writes there while the call runs. NULL, a length that lies
