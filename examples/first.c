@@ -1,12 +1,16 @@
 #include <stdio.h>
 #include <tailsprig.h>
 
-/* Prints the bits of one CM: the menu of an end that has items 3 (V.32 bis), 4 and 12 for data, function 6, and wants LAPM. */
+/* Prints the bits of one CM: the menu of an end that has V.32 bis, V.22 bis and V.21 for data, and wants LAPM. */
 int main(void)
 {
-    struct tailsprig_record own = {.functions[5] = {.available = 1, .items = 0x1018}, .home = 6, .lapm = 1};
+    struct tailsprig_record own = {
+        .functions[TAILSPRIG_FUNCTION_DATA - 1] = {.available = 1, .items = TAILSPRIG_V32BIS | TAILSPRIG_V22BIS | TAILSPRIG_V21},
+        .home = TAILSPRIG_FUNCTION_DATA,
+        .lapm = 1,
+    };
     uint8_t menu[TAILSPRIG_MENU_MOST], line[TAILSPRIG_MOST_BITS];
-    int32_t octets = tailsprig_cm(own, 6, menu, sizeof menu);
+    int32_t octets = tailsprig_cm(own, TAILSPRIG_FUNCTION_DATA, menu, sizeof menu);
     int32_t bits = octets < 0 ? octets : tailsprig_write(TAILSPRIG_MENU, menu, (size_t)octets, 1, line, sizeof line);
 
     if (bits < 0) {

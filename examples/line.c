@@ -1,9 +1,10 @@
 /*
  * A line's loop: what a host does with bits, tones and time around the library. Two lines, a caller and an answerer, are joined here so
- * that the example runs by itself: each bit that one sends the other hears. It prints what each end enters and exits with 0 where both go
- * on with the same choice.
+ * that the example runs by itself: each bit that one sends the other hears, some bit times later. It prints what each end enters and
+ * exits with 0 where both go on with the same choice.
  *
- * The parts to take over are `line_step`, `line_hear` and `line_bit`; tones come from a line card, here from the other line's state.
+ * The parts to take over are `line_start`, `line_step`, `line_hear` and `line_bit`; tones come from a line card, here from the other
+ * line's state.
  */
 #include "tailsprig.h"
 
@@ -20,7 +21,7 @@ struct line {
     uint8_t menu[TAILSPRIG_MENU_MOST]; /* the CM or JM of this end */
     size_t menu_len;
     uint8_t sending[TAILSPRIG_MOST_BITS]; /* one copy of what is sent, a byte for each bit */
-    size_t sending_len, sent;
+    size_t sending_len, sent;             /* its bits, 0 where nothing is sent, and how many of them are on the line */
     bool again; /* a menu is sent until the state changes, CJ once */
 };
 
@@ -44,11 +45,21 @@ static void send_menu(struct line *line)
     line->again = true;
 }
 
+/* CJ, behind the rest of the octet that is being sent: the caller finishes it with its stop bit. */
 static void send_cj(struct line *line)
 {
-    line->sending_len = (size_t)tailsprig_write_cj(line->sending, sizeof line->sending);
+    size_t rest = (TAILSPRIG_OCTET_BITS - line->sent % TAILSPRIG_OCTET_BITS) % TAILSPRIG_OCTET_BITS;
+
+    memmove(line->sending, line->sending + line->sent, rest);
+    line->sending_len = rest + (size_t)tailsprig_write_cj(line->sending + rest, sizeof line->sending - rest);
     line->sent = 0;
     line->again = false;
+}
+
+/* Nothing is sent. JM is cut off where it is. */
+static void send_nothing(struct line *line)
+{
+    line->sending_len = 0;
 }
 
 /* What each state asks of the line. */
@@ -57,15 +68,24 @@ static void line_entered(struct line *line, int32_t state, uint32_t now)
     static const char *const names[] = {"", "still", "calling", "quiet", "menu", "closing", "pause", "still", "answering", "joint"};
 
     show(line, now, names[state]);
-    line->sending_len = 0;
     if (state == TAILSPRIG_STATE_MENU || state == TAILSPRIG_STATE_JOINT) {
         show_menu(line);
         send_menu(line);
     } else if (state == TAILSPRIG_STATE_CLOSING) {
-        printf(", sends CJ");
         send_cj(line);
+        printf(", sends CJ behind %u bits", (unsigned)(line->sending_len - TAILSPRIG_CJ_BITS));
+    } else {
+        send_nothing(line);
     }
     printf("\n");
+}
+
+/* A call starts: session and listener are made anew, so that nothing of the call before counts. */
+static void line_start(struct line *line, struct tailsprig_session session)
+{
+    line->session = session;
+    line->heard = tailsprig_fresh();
+    send_nothing(line);
 }
 
 /* An event, with its time: the session that comes back is kept, refused or not. */
@@ -80,7 +100,7 @@ static void line_step(struct line *line, uint8_t event, int32_t value, uint32_t 
         line_entered(line, taken.code, now);
         return;
     }
-    line->sending_len = 0;
+    send_nothing(line);
     show(line, now, "over");
     if (taken.code >= TAILSPRIG_GO_ON)
         printf(", goes on with %d\n", (int)(taken.code - TAILSPRIG_GO_ON));
@@ -140,32 +160,52 @@ static uint8_t line_bit(struct line *line, uint32_t now)
     return bit;
 }
 
-/* A record with modes for data alone, function 6. */
+/* A record with modes for data alone. */
 static struct tailsprig_record for_data(uint16_t items, uint8_t lapm)
 {
     struct tailsprig_record own;
 
     memset(&own, 0, sizeof own);
-    own.functions[5].available = 1;
-    own.functions[5].items = items;
-    own.home = 6;
+    own.functions[TAILSPRIG_FUNCTION_DATA - 1].available = 1;
+    own.functions[TAILSPRIG_FUNCTION_DATA - 1].items = items;
+    own.home = TAILSPRIG_FUNCTION_DATA;
     own.lapm = lapm;
     return own;
 }
 
+/* One way of the line: a bit arrives so many bit times after it was sent. */
+enum { DELAY = 7 };
+
+struct way {
+    uint8_t bits[DELAY];
+    size_t next;
+};
+
+static uint8_t way_pass(struct way *way, uint8_t bit)
+{
+    uint8_t arriving = way->bits[way->next];
+
+    way->bits[way->next] = bit;
+    way->next = (way->next + 1) % DELAY;
+    return arriving;
+}
+
 int main(void)
 {
-    struct line caller = {.name = "caller", .own = for_data(0x101A, 1)};     /* items 1, 3, 4, 12, LAPM */
-    struct line answerer = {.name = "answerer", .own = for_data(0x0118, 0)}; /* items 3, 4, 8 */
-    int32_t made = tailsprig_cm(caller.own, 6, caller.menu, sizeof caller.menu);
+    struct line caller = {.name = "caller",
+                          .own = for_data(TAILSPRIG_V34 | TAILSPRIG_V32BIS | TAILSPRIG_V22BIS | TAILSPRIG_V21, 1)};
+    struct line answerer = {.name = "answerer",
+                            .own = for_data(TAILSPRIG_V32BIS | TAILSPRIG_V22BIS | TAILSPRIG_V26TER, 0)};
+    struct way there = {.next = 0}, back = {.next = 0};
+    int32_t made = tailsprig_cm(caller.own, TAILSPRIG_FUNCTION_DATA, caller.menu, sizeof caller.menu);
 
     if (made < 0)
         return 1;
     caller.menu_len = (size_t)made;
-    caller.session = tailsprig_start_caller_default(0);
-    answerer.session = tailsprig_start_answerer(0);
-    caller.heard = tailsprig_fresh();
-    answerer.heard = tailsprig_fresh();
+    line_start(&caller, tailsprig_start_caller_default(0));
+    line_start(&answerer, tailsprig_start_answerer(0));
+    memset(there.bits, 1, sizeof there.bits);
+    memset(back.bits, 1, sizeof back.bits);
 
     /* 300 bits a second, and a tick with each; the caller's line card hears ANSam while the answerer sends it. */
     for (uint32_t n = 0; n < 30 * 300; n++) {
@@ -176,11 +216,11 @@ int main(void)
         if (answerer.session.state == TAILSPRIG_STATE_ANSWERING && caller.session.state == TAILSPRIG_STATE_CALLING)
             line_step(&caller, TAILSPRIG_EVENT_ANSAM, 0, now);
 
-        uint8_t from_caller = line_bit(&caller, now);
-        uint8_t from_answerer = line_bit(&answerer, now);
+        uint8_t at_answerer = way_pass(&there, line_bit(&caller, now));
+        uint8_t at_caller = way_pass(&back, line_bit(&answerer, now));
 
-        line_hear(&answerer, from_caller, now);
-        line_hear(&caller, from_answerer, now);
+        line_hear(&answerer, at_answerer, now);
+        line_hear(&caller, at_caller, now);
     }
 
     bool on = caller.session.ended == TAILSPRIG_ENDED_GO_ON && answerer.session.ended == TAILSPRIG_ENDED_GO_ON;

@@ -1,13 +1,29 @@
 /*
- * tailsprig.h: the V.8 session start for a line server or a logger, in C.
+ * tailsprig.h: the V.8 session start for a line server or a logger, in C. This file is the manual.
  *
- * Link target/staticlib/libtailsprig.a (x86-64 Linux). Every call is proved: it takes every input, reads and writes only
- * what it is lent, and always returns. The library keeps no state, allocates nothing and reads no clock, so calls on
- * different memory may run at the same time.
+ *     Rules for every call            what is promised, and what a host has to keep to
+ *     Numbers with names              refusals, kinds, functions, items, PCM, access, tags
+ *     Writing                         octets to bits
+ *     Listening                       bits to messages
+ *     Menus, records, the choice      what a menu says, what an end can do, what both go on with
+ *     Sessions                        states and their limits, events, what a host does in each state and at the end
+ *
+ * A host keeps three things for each line: a record of what its end can do (struct tailsprig_record), what it has heard
+ * (struct tailsprig_listener) and the session (struct tailsprig_session). The last two are made anew at the start of
+ * each call. examples/line.c is the loop around them, for both ends. 'V.8' is ITU-T V.8 (11/2000), with its clauses.
  *
  * Rules for every call
- *   - A pointer is never NULL, not even with a length of 0, and points at as many bytes as its length says.
- *   - What is lent for writing overlaps nothing else that is lent to the same call.
+ *   - Link libtailsprig.a or libtailsprig.so (x86-64 Linux). The library keeps no state, allocates nothing and reads no
+ *     clock, so calls on different memory may run at the same time.
+ *   - Every call is proved: it takes every input, reads and writes only what it is lent, and always returns. Inputs are
+ *     values: numbers, bytes and structs, whatever they hold. Pointers are none: they have to be good. docs/TRUST.md
+ *     says what has to be believed for that.
+ *   - So it is for the host to see to it that a pointer is not NULL, not even with a length of 0; that it points at as
+ *     many bytes as its length says, or at a struct of its type; that what is lent for writing overlaps nothing else
+ *     that is lent to the same call; and that nothing else writes there while the call runs. NULL, a length that lies
+ *     and overlap are outside the promise: no call can test them.
+ *   - An argument that is wider than its parameter is the compiler's to convert, before the library sees it: 258 for a
+ *     uint8_t arrives as 2, and 65,536 copies as 0. The compiler can warn of it (-Wconversion).
  *   - A bit is a byte of value 0 or 1.
  *   - A negative answer -n is refusal n of the list below; then no byte of a lent buffer has changed.
  */
@@ -22,13 +38,22 @@
 extern "C" {
 #endif
 
+/* The version, as text and as numbers. Programs that were built with another first number have to be built anew. */
+#define TAILSPRIG_VERSION "0.1.0"
+#define TAILSPRIG_VERSION_MAJOR 0
+#define TAILSPRIG_VERSION_MINOR 1
+#define TAILSPRIG_VERSION_PATCH 0
+
+/* ---- Numbers with names ---- */
+
 /* Refusals. A call answers the negative of one of these. */
 enum tailsprig_refusal {
     TAILSPRIG_NOT_A_BIT = 1,        /* a bit that is not 0 or 1 */
     TAILSPRIG_STOP_BIT_ZERO = 2,    /* a stop bit that is 0 */
     TAILSPRIG_BAD_OCTET = 3,        /* b4 = 1 with b3 or b5 = 1 */
     TAILSPRIG_TOO_MANY_OCTETS = 4,  /* over 64 octets */
-    TAILSPRIG_NO_CALL_FUNCTION = 5, /* no octets, or the first is not a category octet with tag 1 */
+    TAILSPRIG_NO_CALL_FUNCTION = 5, /* no octets, or the first is not a category octet with tag 1; in tailsprig_cm, a
+                                       function that is not available */
     TAILSPRIG_SHORT_BUFFER = 6,     /* the lent buffer is too short */
     TAILSPRIG_AFTER_OVER = 7,       /* an event after the session was over */
     TAILSPRIG_CLOCK = 8,            /* the clock ran backwards, or half its range has passed */
@@ -45,9 +70,84 @@ enum tailsprig_kind {
     TAILSPRIG_MENU = 2 /* CM and JM */
 };
 
+/* Call functions. In a record, functions[f - 1] is that of function f. */
+enum tailsprig_function {
+    TAILSPRIG_FUNCTION_H324 = 1,
+    TAILSPRIG_FUNCTION_TEXTPHONE = 2,
+    TAILSPRIG_FUNCTION_VIDEOTEX = 3,
+    TAILSPRIG_FUNCTION_FAX_SENT = 4,     /* by the caller */
+    TAILSPRIG_FUNCTION_FAX_RECEIVED = 5, /* by the caller */
+    TAILSPRIG_FUNCTION_DATA = 6
+};
+
+/* Items: modulations by their numbers in V.8, as a choice and sigC name one. Of those in JM the lowest is used. */
+enum tailsprig_item {
+    TAILSPRIG_ITEM_PCM = 0, /* says only that PCM is there: never a choice */
+    TAILSPRIG_ITEM_V34 = 1, /* duplex */
+    TAILSPRIG_ITEM_V34_HALF_DUPLEX = 2,
+    TAILSPRIG_ITEM_V32BIS = 3, /* and V.32 */
+    TAILSPRIG_ITEM_V22BIS = 4, /* and V.22 */
+    TAILSPRIG_ITEM_V17 = 5,
+    TAILSPRIG_ITEM_V29_HALF_DUPLEX = 6,
+    TAILSPRIG_ITEM_V27TER = 7,
+    TAILSPRIG_ITEM_V26TER = 8,
+    TAILSPRIG_ITEM_V26BIS = 9,
+    TAILSPRIG_ITEM_V23 = 10, /* duplex */
+    TAILSPRIG_ITEM_V23_HALF_DUPLEX = 11,
+    TAILSPRIG_ITEM_V21 = 12
+};
+
+/* Sets of items, as records and offers hold them: TAILSPRIG_V34 | TAILSPRIG_V32BIS. */
+enum tailsprig_items {
+    TAILSPRIG_WITH_PCM = 1 << TAILSPRIG_ITEM_PCM, /* in an offer that was read; a record with it is bad */
+    TAILSPRIG_V34 = 1 << TAILSPRIG_ITEM_V34,
+    TAILSPRIG_V34_HALF_DUPLEX = 1 << TAILSPRIG_ITEM_V34_HALF_DUPLEX,
+    TAILSPRIG_V32BIS = 1 << TAILSPRIG_ITEM_V32BIS,
+    TAILSPRIG_V22BIS = 1 << TAILSPRIG_ITEM_V22BIS,
+    TAILSPRIG_V17 = 1 << TAILSPRIG_ITEM_V17,
+    TAILSPRIG_V29_HALF_DUPLEX = 1 << TAILSPRIG_ITEM_V29_HALF_DUPLEX,
+    TAILSPRIG_V27TER = 1 << TAILSPRIG_ITEM_V27TER,
+    TAILSPRIG_V26TER = 1 << TAILSPRIG_ITEM_V26TER,
+    TAILSPRIG_V26BIS = 1 << TAILSPRIG_ITEM_V26BIS,
+    TAILSPRIG_V23 = 1 << TAILSPRIG_ITEM_V23,
+    TAILSPRIG_V23_HALF_DUPLEX = 1 << TAILSPRIG_ITEM_V23_HALF_DUPLEX,
+    TAILSPRIG_V21 = 1 << TAILSPRIG_ITEM_V21
+};
+
+/* PCM options, b5 to b7 of their octet with b5 lowest; several are joined by |. */
+enum tailsprig_pcm_option {
+    TAILSPRIG_PCM_ANALOGUE = 1, /* V.90 or V.92, the analogue modem */
+    TAILSPRIG_PCM_DIGITAL = 2,  /* V.90 or V.92, the digital modem */
+    TAILSPRIG_PCM_V91 = 4
+};
+
+/* Access options, in the same way. */
+enum tailsprig_access_option {
+    TAILSPRIG_ACCESS_CALLER_CELLULAR = 1,
+    TAILSPRIG_ACCESS_ANSWERER_CELLULAR = 2,
+    TAILSPRIG_ACCESS_DIGITAL = 4 /* the end that says it is on a digital network */
+};
+
+/* The tags of the groups that V.8 defines and that are read here. */
+enum tailsprig_tag {
+    TAILSPRIG_TAG_CALL_FUNCTION = 1,
+    TAILSPRIG_TAG_MODULATION = 5,
+    TAILSPRIG_TAG_PCM = 7,
+    TAILSPRIG_TAG_PROTOCOL = 10,
+    TAILSPRIG_TAG_ACCESS = 13
+};
+
+/* ---- Writing ---- */
+
 /* The most octets that a message has, and the most bits that one copy of it takes. */
 #define TAILSPRIG_MOST_OCTETS 64
 #define TAILSPRIG_MOST_BITS 660
+
+/* The bits of an octet with its start and stop bit. The ten 1s and the sync take as many: a sequence goes by tens. */
+#define TAILSPRIG_OCTET_BITS 10
+
+/* The bits of CJ. */
+#define TAILSPRIG_CJ_BITS 30
 
 /*
  * Writes a message `copies` times from the start of `out`, a byte for each bit, and answers how many bits that is.
@@ -70,9 +170,18 @@ int32_t tailsprig_write(uint8_t kind, const uint8_t *octets, size_t octets_len, 
 int32_t tailsprig_write_cj(uint8_t *out, size_t out_len);
 
 /*
- * Listening. A host keeps one record for each line and hears every bit with it. Its numbers are the library's: a host
- * copies and stores them, reads the message in `msg`, and changes none. A record with a number outside its range is
- * refused with 10 and keeps its value; tailsprig_fresh and every call give records within the ranges.
+ * ---- Listening ----
+ *
+ * A host keeps one record for each line, makes it fresh at the start of each call, and hears every bit of the call
+ * with it. Why fresh: a menu is agreed where it equals the message reported just before it. In a record that is kept
+ * over calls that is a menu of the call before, and one damaged copy that equals it would be agreed at once.
+ *
+ * Bits are what the V.21 demodulator gives while it hears a carrier. Without carrier hand over no bits, or 1s, which
+ * end the message that came last; never what a demodulator makes of noise.
+ *
+ * The numbers of a record are the library's: a host copies and stores them, reads the message in `msg`, and changes
+ * none. A record with a number outside its range is refused with 10 and keeps its value; tailsprig_fresh and every
+ * call give records within the ranges.
  */
 struct tailsprig_ear {
     uint32_t past;  /* the last bits heard, the newest on top: past / 2 + bit * 2^31. Any number */
@@ -118,7 +227,8 @@ struct tailsprig_listener tailsprig_fresh(void);
  * Refusals, in this order:
  *   10  a number of the record is outside its range; the record keeps its value
  *    1  bit is neither 0 nor 1; the record keeps its value, and the byte does not count as heard
- * With these the bit was heard, what was being heard is given up, and hunting resumes:
+ * With these the bit was heard, what was being heard is given up, and hunting resumes. They are damage on the line, and
+ * ask nothing of a host:
  *    2  a 0 where the stop bit belongs
  *    3  an octet with b4 = 1 and b3 or b5 = 1
  *    4  a 65th octet
@@ -139,7 +249,7 @@ struct tailsprig_ran {
  * where len is 0, no byte is taken and the record comes back as it was. The record goes and comes back by value. How
  * the bits of a line are cut into calls makes no difference.
  *
- *     struct tailsprig_listener rec = tailsprig_fresh();       once for each line
+ *     struct tailsprig_listener rec = tailsprig_fresh();       at the start of each call
  *
  *     while (len > 0) {                                        for the bits that have arrived
  *         struct tailsprig_ran ran = tailsprig_hear_many(rec, bits, len);
@@ -155,7 +265,9 @@ struct tailsprig_ran {
 struct tailsprig_ran tailsprig_hear_many(struct tailsprig_listener rec, const uint8_t *bits, size_t len);
 
 /*
- * Menus. A message is a list of octets, as tailsprig_hear leaves it in `msg`. Looking and reading refuse the same lists, in
+ * ---- Menus ----
+ *
+ * A message is a list of octets, as tailsprig_hear leaves it in `msg`. Looking and reading refuse the same lists, in
  * this order:
  *    4  more than 64 octets
  *    5  no octets, or the first one is not a category octet with tag 1
@@ -165,25 +277,27 @@ struct tailsprig_ran tailsprig_hear_many(struct tailsprig_listener rec, const ui
 /* What tailsprig_find answers where no group has the tag: no place is as high. */
 #define TAILSPRIG_NOWHERE 64
 
-/* The place, counted from 0, of the first group with this tag; TAILSPRIG_NOWHERE, also for a tag over 15; or a refusal. */
+/*
+ * The place, counted from 0, of the first group with this tag; TAILSPRIG_NOWHERE, also for a tag over 15; or a refusal.
+ */
 int32_t tailsprig_find(const uint8_t *octets, size_t octets_len, uint8_t tag);
 
 /*
  * How many octets the part of a place has: the category octet there and the octets behind it up to the next one with
- * b4 = 0. The part is octets[place .. place + answer - 1] of the message itself. A place without a category octet, or past
- * the end, has the empty part, 0.
+ * b4 = 0. The part is octets[place .. place + answer - 1] of the message itself. A place without a category octet, or
+ * past the end, has the empty part, 0.
  */
 size_t tailsprig_part(const uint8_t *octets, size_t octets_len, size_t place);
 
 /* What a menu offers. The first group of a tag counts; groups that V.8 does not define are passed over. */
 struct tailsprig_offer {
-    uint8_t function;       /* the call function: 1 H.324, 2 textphone, 3 videotex, 4 fax sent by the caller, 5 fax received
-                               by the caller, 6 data. 0 and 7 are read too */
-    uint16_t items;         /* bit i for item i, items 0 to 12; those past a short modulation group are absent */
-    uint8_t pcm;            /* PCM options b5 to b7 as a number, b5 lowest; 0 where the group does not count */
+    uint8_t function;       /* tailsprig_function; 0 and 7 are read too */
+    uint16_t items;         /* tailsprig_items; those past a short modulation group are absent */
+    uint8_t pcm;            /* tailsprig_pcm_option; 0 where the PCM group does not count: without options, or
+                               without an access group in the menu */
     bool lapm;              /* the protocol group says LAPM */
     bool access;            /* an access group stands in the menu */
-    uint8_t access_options; /* its options, b5 lowest: 1 caller cellular, 2 answerer cellular, 4 digital network */
+    uint8_t access_options; /* tailsprig_access_option */
 };
 
 struct tailsprig_menu_read {
@@ -195,20 +309,23 @@ struct tailsprig_menu_read {
 struct tailsprig_menu_read tailsprig_read(const uint8_t *octets, size_t octets_len);
 
 /*
- * Records. What an end can do, as it says it in its menus. A number that says yes or no is 1 or 0.
+ * ---- Records ----
  *
- * A record is bad, and refused with 10, if one of these numbers is neither, if the home function is not an available one, if a
- * set holds anything but items 1 to 12, if PCM options exceed 7, or if PCM options 1 or 2 are set without item 1 in the same function. All six
- * functions are tested. One that is not available has no modes and no PCM, even where they are filled in.
+ * What an end can do, as it says it in its menus. A number that says yes or no is 1 or 0.
+ *
+ * A record is bad, and refused with 10, if one of these numbers is neither, if the home function is not an available
+ * one, if a set holds anything but items 1 to 12, if PCM options exceed 7, or if PCM options 1 or 2 are set without
+ * item 1 in the same function. All six functions are tested. One that is not available has no modes and no PCM, even
+ * where they are filled in.
  */
 struct tailsprig_modes {
     uint8_t available; /* the end has this function */
-    uint8_t pcm;       /* PCM options: 1 analogue, 2 digital, 4 V.91 */
-    uint16_t items;    /* bit i for item i, items 1 to 12 */
+    uint8_t pcm;       /* tailsprig_pcm_option */
+    uint16_t items;    /* tailsprig_items, items 1 to 12 */
 };
 
 struct tailsprig_record {
-    struct tailsprig_modes functions[6]; /* functions 1 to 6 in turn */
+    struct tailsprig_modes functions[6]; /* functions 1 to 6 in turn; for data functions[TAILSPRIG_FUNCTION_DATA - 1] */
     uint8_t home;                        /* the function that a JM names where the asked one is not available */
     uint8_t lapm;                        /* LAPM is wanted */
     uint8_t access;                      /* an access group is wanted */
@@ -220,8 +337,8 @@ struct tailsprig_record {
 #define TAILSPRIG_MENU_MOST 7
 
 /*
- * Makes the CM of a record for a function into out, and answers how many octets it has, 4 to 7. Later bytes of out keep their
- * values. A refusal writes nothing:
+ * Makes the CM of a record for a function into out, and answers how many octets it has, 4 to 7. Later bytes of out keep
+ * their values. A refusal writes nothing:
  *   10  the record is bad
  *    5  the function is not available: 0 and 7 to 255 never are
  *    6  out is too short
@@ -229,12 +346,14 @@ struct tailsprig_record {
 int32_t tailsprig_cm(struct tailsprig_record own, uint8_t function, uint8_t *out, size_t out_len);
 
 /*
- * Makes the JM of a record for a heard CM into out, and answers how many octets it has, 4 to 7. A refusal writes nothing:
+ * Makes the JM of a record for a heard CM into out, and answers how many octets it has, 4 to 7. A refusal writes
+ * nothing:
  *   10  the record is bad
  *    4, 5, 3  the heard CM cannot be read
  *    6  out is too short
  */
-int32_t tailsprig_jm(struct tailsprig_record own, const uint8_t *heard, size_t heard_len, uint8_t *out, size_t out_len);
+int32_t tailsprig_jm(struct tailsprig_record own, const uint8_t *heard, size_t heard_len, uint8_t *out,
+                     size_t out_len);
 
 /* Answers of tailsprig_call_function. */
 #define TAILSPRIG_CALL_FUNCTION_NOWHERE 0
@@ -242,34 +361,96 @@ int32_t tailsprig_jm(struct tailsprig_record own, const uint8_t *heard, size_t h
 #define TAILSPRIG_CALL_FUNCTION_OWN 2
 
 /*
- * In which of two menus the call function octet of a JM stands, as that menu's first octet: in the heard CM where its function is
- * available, otherwise in our own CM for the home function. Nowhere with a bad record, and where one of the menus cannot be
- * read. The function of our own CM is not tested.
+ * In which of two menus the call function octet of a JM stands, as that menu's first octet: in the heard CM where its
+ * function is available, otherwise in our own CM for the home function. Nowhere with a bad record, and where one of the
+ * menus cannot be read. The function of our own CM is not tested.
  */
-uint8_t tailsprig_call_function(struct tailsprig_record own, const uint8_t *heard, size_t heard_len, const uint8_t *own_cm,
-                                size_t own_cm_len);
+uint8_t tailsprig_call_function(struct tailsprig_record own, const uint8_t *heard, size_t heard_len,
+                                const uint8_t *own_cm, size_t own_cm_len);
 
-/* What tailsprig_choice adds to PCM options: no item is as high. */
+/* ---- The choice ---- */
+
+/* Nothing is shared; and what tailsprig_choice adds to PCM options: no item is as high. */
+#define TAILSPRIG_CHOICE_NONE 0
 #define TAILSPRIG_PCM 16
 
 /*
  * What both ends go on with, from the menu that was sent (CM) and the one that answered it (JM):
  *    0         nothing is shared: the call is cleared
- *    1 to 12   an item: 1 V.34 duplex, 2 V.34 half duplex, 3 V.32 bis, 4 V.22 bis, 5 V.17, 6 V.29 half duplex, 7 V.27 ter,
- *              8 V.26 ter, 9 V.26 bis, 10 V.23 duplex, 11 V.23 half duplex, 12 V.21
- *   17 to 23   TAILSPRIG_PCM + the options of JM that pair with those of CM: 1 JM analogue with CM digital, 2 JM digital
- *              with CM analogue, 4 V.91 with V.91
+ *    1 to 12   an item, as enum tailsprig_item names it: the lowest of JM
+ *   17 to 23   TAILSPRIG_PCM + the options of JM that pair with those of CM: 1 JM analogue with CM digital, 2 JM
+ *              digital with CM analogue, 4 V.91 with V.91
  *
  * Refusals, in this order: 4, 5 and 3 of CM, the same of JM, then
  *   11  the functions differ, JM's lowest item is not in CM, or no PCM option pairs
+ *
+ * LAPM is used where CM and JM both say it (tailsprig_read): the choice does not look at it.
  */
 int32_t tailsprig_choice(const uint8_t *cm, size_t cm_len, const uint8_t *jm, size_t jm_len);
 
 /*
- * Sessions. A host keeps one for each call, at each end, and hands it every event with its time. The clock is a free-running
- * count of milliseconds that wraps. The numbers are the library's: a host copies and stores them, and changes none. A
- * session with a number outside its range is refused with 10 and keeps its value; the starts and every step give sessions
- * within the ranges.
+ * ---- Sessions ----
+ *
+ * A host keeps one for each call, at each end, and hands it every event with its time; the answer says which state was
+ * entered, and by that what to send. The clock is a free-running count of milliseconds that wraps.
+ *
+ * State             sends                 is ended by                                       at the latest, by a tick
+ *
+ * 1 CALLER_STILL    nothing                                                                 1,000 ms: CALLING
+ * 2 CALLING         CI, CT, CNG or none   ANSam: QUIET. ANS, sigA: OVER, left               no limit
+ * 3 QUIET           nothing                                                                 Te: MENU
+ * 4 MENU            CM, over and over     agreed JM: CLOSING; with -11: OVER, not offered   10,000 ms: OVER, late
+ * 5 CLOSING         CJ, once              CJ sent: PAUSE; choice none: OVER, cleared        no limit
+ * 6 PAUSE           nothing                                                                 75 ms: OVER, go on; left
+ *                                                                                           where nothing is chosen
+ * 7 ANSWERER_STILL  nothing                                                                 200 ms: ANSWERING
+ * 8 ANSWERING       ANSam                 agreed CM: JOINT. sigC: PAUSE, then left          5,000 ms: PAUSE, then left
+ * 9 JOINT           JM, over and over     CJ: PAUSE; choice none: OVER, cleared.            10,000 ms: OVER, late
+ *                                         sigC of the chosen item: PAUSE
+ * 10 OVER           what comes next       every event is refused with 7
+ *
+ * Any other event of this end changes nothing and is answered 0. What a host has to know of it:
+ *
+ *   No limit.  CALLING lasts until someone answers, and CLOSING until the host says that CJ is sent. A host that gives
+ *     up waiting there needs a timer of its own; it then drops the session.
+ *   Ticks.  Time is looked at on a tick alone. V.8 asks for a pause of 75 ms within 5 (8.1.2, 8.2.2, 8.2.3), so in
+ *     PAUSE ticks are 5 ms apart or less. Elsewhere a tick that comes late makes the state that much longer.
+ *   Te.  How long the caller is quiet: at least 500 ms, and 1,000 or more where echo cancellers have to be disabled
+ *     (8.1.1). It counts from the event ANSam; a host that lets a CI end first hands that event over when it has. A Te
+ *     near 5,000 outlasts the answerer's ANSam, in which two copies of CM have to be heard as well: the answerer has
+ *     left by then.
+ *   Tones.  A line card tells a tone for as long as it hears it, at every tick say, and not only when it begins: ANSam
+ *     that is told once, while the caller is in CALLER_STILL, is answered 0 and lost.
+ *   Menus.  They are sent until the state changes and never a count of copies: other ends may need more than two.
+ *   Reports.  Where a menu is agreed in MENU or ANSWERING, the host asks tailsprig_choice, at the answerer behind
+ *     tailsprig_jm, and hands over what it answers. CJ that the answerer hears is handed over as it is. All else that
+ *     is heard asks for nothing: CI, a menu that is not agreed, a refusal, an agreed menu in another state, and CJ at
+ *     the caller.
+ *   From CM to CJ.  The caller first finishes the octet that it is sending, with its stop bit, and then sends CJ
+ *     (8.1.2). Its copy goes by tens (TAILSPRIG_OCTET_BITS), the ten 1s and the sync too, so it goes on to the next
+ *     multiple of ten. It hands over CJ_SENT once the last bit of CJ is on the line.
+ *   From JM to PAUSE.  JM may be cut off anywhere (8.2.3). What is left of it is heard as a damaged menu, or not at
+ *     all.
+ *   CJ lost.  An answerer that misses CJ goes to PAUSE by the sigC of the chosen item. A PCM choice matches no sigC:
+ *     then JOINT ends late, unless the host goes by something else, as that no CM has come for long enough (8.2.3).
+ *     That takes a timer of the host; when it runs out the host hands over CJ.
+ *   ANS.  An answerer without V.8. The caller is over, left.
+ *   sigA.  An answering modem's own signal. The caller is over, left, whatever modulation it stands for.
+ *   sigC.  A calling modem's own signal, with the item that it stands for. In ANSWERING each leads to PAUSE and to
+ *     left; in JOINT the one of the chosen item means what CJ means, and others are answered 0.
+ *   OVER, left.  V.8 does not decide what comes next. After ANS: as Annex A of V.32 bis, T.30 or another recommendation
+ *     that applies says (8.1.1). After sigA: with the modulation of that signal (8.1.1). At the answerer after sigC:
+ *     with the sigA and the modulation that belong to it (8.2.2), so the host remembers the item. At the answerer after
+ *     5,000 ms: as Annex A of V.32 bis, T.30 or another recommendation that applies says (8.2.2).
+ *   OVER, late, cleared or not offered.  There is no mode to go on with: hang up.
+ *   Refused with 8.  The event did not count and the session is as it was. Where the host's clock went back, or events
+ *     overtook each other, hand it over again with a time that is not before `entry`. Where 2^31 ms (24 days) have
+ *     passed in one state, nobody is on the line: drop the session.
+ *   Refused with 9 or 7.  A mistake of the host, which nothing on the line brings about. 7 can be passed over where
+ *     events are still under way when a session ends.
+ *
+ * The numbers of a session are the library's: a host copies and stores them, and changes none. A session with a number
+ * outside its range is refused with 10 and keeps its value; the starts and every step give sessions within the ranges.
  */
 enum tailsprig_end { TAILSPRIG_CALLER = 1, TAILSPRIG_ANSWERER = 2 };
 
@@ -277,13 +458,13 @@ enum tailsprig_state {
     TAILSPRIG_STATE_CALLER_STILL = 1,
     TAILSPRIG_STATE_CALLING = 2,
     TAILSPRIG_STATE_QUIET = 3,
-    TAILSPRIG_STATE_MENU = 4,    /* send CM */
-    TAILSPRIG_STATE_CLOSING = 5, /* send CJ */
-    TAILSPRIG_STATE_PAUSE = 6,   /* both ends' */
+    TAILSPRIG_STATE_MENU = 4,
+    TAILSPRIG_STATE_CLOSING = 5,
+    TAILSPRIG_STATE_PAUSE = 6, /* both ends' */
     TAILSPRIG_STATE_ANSWERER_STILL = 7,
-    TAILSPRIG_STATE_ANSWERING = 8, /* send ANSam */
-    TAILSPRIG_STATE_JOINT = 9,     /* send JM */
-    TAILSPRIG_STATE_OVER = 10      /* both ends' */
+    TAILSPRIG_STATE_ANSWERING = 8,
+    TAILSPRIG_STATE_JOINT = 9,
+    TAILSPRIG_STATE_OVER = 10 /* both ends' */
 };
 
 enum tailsprig_ended {
@@ -319,15 +500,18 @@ struct tailsprig_session tailsprig_start_caller_default(uint32_t start);
 struct tailsprig_session tailsprig_start_answerer(uint32_t start);
 
 enum tailsprig_event {
-    TAILSPRIG_EVENT_ANSAM = 1,     /* the caller's, to CJ sent */
+    /* the caller's */
+    TAILSPRIG_EVENT_ANSAM = 1,
     TAILSPRIG_EVENT_ANS = 2,
     TAILSPRIG_EVENT_SIG_A = 3,
     TAILSPRIG_EVENT_AGREED_JM = 4, /* carries what tailsprig_choice answered: a choice, or -11 */
     TAILSPRIG_EVENT_CJ_SENT = 5,
-    TAILSPRIG_EVENT_AGREED_CM = 6, /* the answerer's, to CJ; this one carries the choice, from CM and the JM that answers it */
+    /* the answerer's */
+    TAILSPRIG_EVENT_AGREED_CM = 6, /* carries the choice, from CM and the JM that answers it */
     TAILSPRIG_EVENT_SIG_C = 7,     /* carries an item, 1 to 12 */
     TAILSPRIG_EVENT_CJ = 8,
-    TAILSPRIG_EVENT_TICK = 9 /* both ends': time has passed */
+    /* both ends' */
+    TAILSPRIG_EVENT_TICK = 9 /* time has passed */
 };
 
 /* What a step's code adds to how a session ended, and to the choice that it goes on with. */
@@ -352,9 +536,10 @@ struct tailsprig_step_taken {
  *    9  an event of the other end, or a number that is no event; a value that the event may not carry
  *    8  the time is before the entry time, or 2^31 ms and more behind it
  *
- * Elapsed time is looked at on a tick alone, and one tick makes one change at most.
+ * One tick makes one change at most.
  */
-struct tailsprig_step_taken tailsprig_step(struct tailsprig_session session, uint8_t event, int32_t value, uint32_t now);
+struct tailsprig_step_taken tailsprig_step(struct tailsprig_session session, uint8_t event, int32_t value,
+                                           uint32_t now);
 
 #ifdef __cplusplus
 }

@@ -11,21 +11,21 @@
 
 enum { CALL_MS = 30000 };
 
-/* Items as bits, by their numbers in the header. */
+/* Names of the header, short enough for a table of calls. */
 enum {
-    V34 = 1 << 1,
-    V34HD = 1 << 2,
-    V32BIS = 1 << 3,
-    V22BIS = 1 << 4,
-    V17 = 1 << 5,
-    V29 = 1 << 6,
-    V27TER = 1 << 7,
-    V26TER = 1 << 8,
-    V21 = 1 << 12
+    V34 = TAILSPRIG_V34,
+    V34HD = TAILSPRIG_V34_HALF_DUPLEX,
+    V32BIS = TAILSPRIG_V32BIS,
+    V22BIS = TAILSPRIG_V22BIS,
+    V17 = TAILSPRIG_V17,
+    V29 = TAILSPRIG_V29_HALF_DUPLEX,
+    V27TER = TAILSPRIG_V27TER,
+    V26TER = TAILSPRIG_V26TER,
+    V21 = TAILSPRIG_V21
 };
 
-enum { H324 = 1, FAX_SENT = 4, DATA = 6 };
-enum { ANALOGUE = 1, DIGITAL = 2 };
+enum { H324 = TAILSPRIG_FUNCTION_H324, FAX_SENT = TAILSPRIG_FUNCTION_FAX_SENT, DATA = TAILSPRIG_FUNCTION_DATA };
+enum { ANALOGUE = TAILSPRIG_PCM_ANALOGUE, DIGITAL = TAILSPRIG_PCM_DIGITAL };
 
 struct call {
     const char *name;

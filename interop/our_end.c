@@ -14,7 +14,7 @@ static void send_message(struct our_end *end, uint8_t kind, const uint8_t *octet
 
 static void send_cj(struct our_end *end)
 {
-    uint8_t bits[30];
+    uint8_t bits[TAILSPRIG_CJ_BITS];
     v21_send(&end->sender, bits, (size_t)tailsprig_write_cj(bits, sizeof bits), false);
 }
 

@@ -11,7 +11,7 @@
 #include <sys/wait.h>
 #include <unistd.h>
 
-enum { FAX_SENT = 4, HANG_CPU_SECONDS = 1, LISTEN_MS = 15000, CALL_MS = 6000 };
+enum { FAX_SENT = TAILSPRIG_FUNCTION_FAX_SENT, HANG_CPU_SECONDS = 1, LISTEN_MS = 15000, CALL_MS = 6000 };
 
 /* Data with LAPM, and the same with a group of tag 15 behind it. */
 static const uint8_t CM[] = {0xC1, 0x45, 0x13, 0x90, 0x2A};

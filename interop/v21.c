@@ -27,7 +27,7 @@ void v21_close(struct v21_sender *sender)
     fsk_tx_free(sender->modem);
 }
 
-/* What is left of the octet being sent, moved to the front: V.8 lets CJ follow a whole octet only (8.1.1). */
+/* What is left of the octet being sent, moved to the front: V.8 lets CJ follow a whole octet only (8.1.2). */
 static size_t keep_rest_of_octet(struct v21_sender *sender)
 {
     size_t rest = (V21_FRAME_BITS - sender->next % V21_FRAME_BITS) % V21_FRAME_BITS;

@@ -209,6 +209,34 @@ fn a_menu_is_not_agreed_with_a_ci_of_the_same_octets() {
     assert_eq!(reports(&[menu.clone(), ci, menu]), [not, Report::Ci, not]);
 }
 
+/// A call asks for V.34 among others, the next on the same line does not, and one bit of its first copy is damaged: it then is the menu
+/// of the call before.
+#[test]
+fn a_record_kept_over_calls_agrees_at_one_damaged_copy_and_a_fresh_one_does_not() {
+    let before = sequence(MENU, &[0xc1, 0x45, 0x13, 0x90, 0x2a]);
+    let sent = sequence(MENU, &[0xc1, 0x05, 0x13, 0x90, 0x2a]);
+    let damaged = before.clone();
+    assert_eq!(sent.iter().zip(&damaged).filter(|(sent, heard)| sent != heard).count(), 1);
+
+    // What the line of a call reports, and the octets of the last report.
+    let call = |listener: &mut Listener, copies: &[&Vec<u8>]| {
+        let line = copies.iter().copied().flatten().chain(&[1; 10]);
+        let said: Vec<Report> = line.map(|&bit| listener.hear(bit)).filter(|report| *report != Report::Nothing).collect();
+        (said, listener.octets().to_vec())
+    };
+    let [agreed, not] = [true, false].map(|agreed| Report::Menu { agreed });
+
+    let mut kept = Listener::fresh();
+    assert_eq!(call(&mut kept, &[&before, &before]).0, [not, agreed]);
+    assert_eq!(call(&mut kept, &[&damaged]), (vec![agreed], vec![0xc1, 0x45, 0x13, 0x90, 0x2a]));
+
+    let mut fresh = Listener::fresh();
+    assert_eq!(
+        call(&mut fresh, &[&damaged, &sent, &sent]),
+        (vec![not, not, agreed], vec![0xc1, 0x05, 0x13, 0x90, 0x2a])
+    );
+}
+
 #[test]
 fn a_65th_octet_is_refused_with_3_before_4() {
     let mut octets = [0x10; 65];

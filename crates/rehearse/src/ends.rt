@@ -14,12 +14,13 @@ pub struct Menu {
     pub len: usize,
 }
 
-// The session, the CM or JM of this end, how many bits are sent of a copy of what its state sends, the bit that it sends now, and the
-// last report of its listener.
+// The session, the CM or JM of this end, how many bits are sent of a copy of what it sends, how many of that copy come before CJ yet, the
+// bit that it sends now, and the last report of its listener.
 pub struct End {
     pub session: Session,
     pub menu: Menu,
     pub sent: usize,
+    pub before_cj: usize,
     pub bit: u8,
     pub told: u8,
 }
@@ -64,6 +65,7 @@ pub fn begin(session: Session, menu: Menu) -> End {
         session: session,
         menu: menu,
         sent: 0,
+        before_cj: 0,
         bit: 1,
         told: TOLD_NOTHING,
     }
@@ -72,6 +74,15 @@ pub fn begin(session: Session, menu: Menu) -> End {
 fn tell_state(now: u32, session: Session, menu: Menu) {
     let octets = menu.octets;
     telling::tell_state(now, session, part(&octets, 0, menu.len));
+}
+
+// How many bits of a menu are sent before CJ when a state is entered. The caller finishes the octet that it is sending, with its stop
+// bit (V.8, 8.1.2); the ten 1s and the sync are ten bits as well. Anything else is cut off where it is.
+fn bits_before_cj(state: u8, sent: usize) -> usize {
+    if state == steps::CLOSING {
+        return (10 - sent % 10) % 10;
+    }
+    0
 }
 
 // An event with its time. Where something changes it is the state: the one that is entered is told, and what it sends starts anew.
@@ -84,9 +95,13 @@ fn step(end: End, event: u8, value: u8, now: u32) -> End {
     }
     let menu = end.menu;
     tell_state(now, after, menu);
+    let before_cj = bits_before_cj(after.state, end.sent);
     let mut next = end;
     next.session = after;
-    next.sent = 0;
+    next.before_cj = before_cj;
+    if before_cj == 0 {
+        next.sent = 0;
+    }
     next
 }
 
@@ -100,6 +115,23 @@ fn tick(end: End, across: u8, now: u32) -> End {
     let next = step(end, steps::TICK, 0, now);
     if across == steps::ANSWERING {
         return step(next, steps::ANSAM, 0, now);
+    }
+    next
+}
+
+// Sends the next bit of a menu before CJ, which starts behind the last of them.
+fn finish(end: End, bits: &[u8; 90]) -> End {
+    let sent = end.sent;
+    let before_cj = end.before_cj;
+    let mut next = end;
+    next.before_cj = 0;
+    next.sent = 0;
+    if sent < 90 {
+        next.bit = bits[sent];
+        if 1 < before_cj {
+            next.before_cj = before_cj - 1;
+            next.sent = sent + 1;
+        }
     }
     next
 }
@@ -126,6 +158,10 @@ fn send_next(end: End, now: u32) -> End {
     let session = end.session;
     let menu = end.menu;
     let mut bits = [1u8; 90];
+    if 0 < end.before_cj {
+        write_copy(steps::MENU, menu, &mut bits);
+        return finish(end, &bits);
+    }
     let len = write_copy(session.state, menu, &mut bits);
     if len == 0 {
         let mut next = end;

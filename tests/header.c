@@ -1,0 +1,701 @@
+/*
+ * The header held against the library. First the sizes and places of what the header declares, and every number with a name: these fail
+ * when this is compiled. Then calls of each function, with answers that were made by hand. They tell every two fields of a struct apart:
+ * where the header and the library differ, an answer is wrong. Exits with 1 where one was.
+ *
+ * With CALLS_ALONE the first part is left out, so that tests/header.sh can see that the calls notice by themselves.
+ */
+#include <tailsprig.h>
+
+#include <stdio.h>
+#include <string.h>
+
+#ifndef CALLS_ALONE
+
+/* The numbers are those of the declarations in crates/ (host/tests/header.rs). */
+#define STRUCT(type, bytes) _Static_assert(sizeof(struct type) == (bytes), #type)
+#define FIELD(type, field, at, bytes) \
+    _Static_assert(offsetof(struct type, field) == (at) && sizeof(((struct type *)0)->field) == (bytes), #type "." #field)
+#define NUMBER(name, number) _Static_assert((name) == (number), #name)
+
+STRUCT(tailsprig_ear, 12);
+FIELD(tailsprig_ear, past, 0, 4);
+FIELD(tailsprig_ear, heard, 4, 4);
+FIELD(tailsprig_ear, place, 8, 4);
+
+STRUCT(tailsprig_message, 66);
+FIELD(tailsprig_message, kind, 0, 1);
+FIELD(tailsprig_message, len, 1, 1);
+FIELD(tailsprig_message, octets, 2, 64);
+
+STRUCT(tailsprig_listener, 144);
+FIELD(tailsprig_listener, ear, 0, 12);
+FIELD(tailsprig_listener, msg, 12, 66);
+FIELD(tailsprig_listener, last, 78, 66);
+
+STRUCT(tailsprig_ran, 160);
+FIELD(tailsprig_ran, rec, 0, 144);
+FIELD(tailsprig_ran, taken, 144, 8);
+FIELD(tailsprig_ran, code, 152, 4);
+
+STRUCT(tailsprig_offer, 8);
+FIELD(tailsprig_offer, function, 0, 1);
+FIELD(tailsprig_offer, items, 2, 2);
+FIELD(tailsprig_offer, pcm, 4, 1);
+FIELD(tailsprig_offer, lapm, 5, 1);
+FIELD(tailsprig_offer, access, 6, 1);
+FIELD(tailsprig_offer, access_options, 7, 1);
+
+STRUCT(tailsprig_menu_read, 12);
+FIELD(tailsprig_menu_read, offer, 0, 8);
+FIELD(tailsprig_menu_read, code, 8, 4);
+
+STRUCT(tailsprig_modes, 4);
+FIELD(tailsprig_modes, available, 0, 1);
+FIELD(tailsprig_modes, pcm, 1, 1);
+FIELD(tailsprig_modes, items, 2, 2);
+
+STRUCT(tailsprig_record, 30);
+FIELD(tailsprig_record, functions, 0, 24);
+FIELD(tailsprig_record, home, 24, 1);
+FIELD(tailsprig_record, lapm, 25, 1);
+FIELD(tailsprig_record, access, 26, 1);
+FIELD(tailsprig_record, cellular, 27, 1);
+FIELD(tailsprig_record, digital, 28, 1);
+
+STRUCT(tailsprig_session, 12);
+FIELD(tailsprig_session, entry, 0, 4);
+FIELD(tailsprig_session, te, 4, 4);
+FIELD(tailsprig_session, end, 8, 1);
+FIELD(tailsprig_session, state, 9, 1);
+FIELD(tailsprig_session, chosen, 10, 1);
+FIELD(tailsprig_session, ended, 11, 1);
+
+STRUCT(tailsprig_caller_start, 16);
+FIELD(tailsprig_caller_start, session, 0, 12);
+FIELD(tailsprig_caller_start, code, 12, 4);
+
+STRUCT(tailsprig_step_taken, 16);
+FIELD(tailsprig_step_taken, session, 0, 12);
+FIELD(tailsprig_step_taken, code, 12, 4);
+
+NUMBER(TAILSPRIG_NOT_A_BIT, 1);
+NUMBER(TAILSPRIG_STOP_BIT_ZERO, 2);
+NUMBER(TAILSPRIG_BAD_OCTET, 3);
+NUMBER(TAILSPRIG_TOO_MANY_OCTETS, 4);
+NUMBER(TAILSPRIG_NO_CALL_FUNCTION, 5);
+NUMBER(TAILSPRIG_SHORT_BUFFER, 6);
+NUMBER(TAILSPRIG_AFTER_OVER, 7);
+NUMBER(TAILSPRIG_CLOCK, 8);
+NUMBER(TAILSPRIG_WRONG_EVENT, 9);
+NUMBER(TAILSPRIG_BAD_RECORD, 10);
+NUMBER(TAILSPRIG_NOT_OFFERED, 11);
+NUMBER(TAILSPRIG_WRONG_CATEGORY, 12);
+NUMBER(TAILSPRIG_CUT_SHORT, 13);
+
+NUMBER(TAILSPRIG_CI, 1);
+NUMBER(TAILSPRIG_MENU, 2);
+
+NUMBER(TAILSPRIG_FUNCTION_H324, 1);
+NUMBER(TAILSPRIG_FUNCTION_TEXTPHONE, 2);
+NUMBER(TAILSPRIG_FUNCTION_VIDEOTEX, 3);
+NUMBER(TAILSPRIG_FUNCTION_FAX_SENT, 4);
+NUMBER(TAILSPRIG_FUNCTION_FAX_RECEIVED, 5);
+NUMBER(TAILSPRIG_FUNCTION_DATA, 6);
+
+NUMBER(TAILSPRIG_ITEM_PCM, 0);
+NUMBER(TAILSPRIG_ITEM_V34, 1);
+NUMBER(TAILSPRIG_ITEM_V34_HALF_DUPLEX, 2);
+NUMBER(TAILSPRIG_ITEM_V32BIS, 3);
+NUMBER(TAILSPRIG_ITEM_V22BIS, 4);
+NUMBER(TAILSPRIG_ITEM_V17, 5);
+NUMBER(TAILSPRIG_ITEM_V29_HALF_DUPLEX, 6);
+NUMBER(TAILSPRIG_ITEM_V27TER, 7);
+NUMBER(TAILSPRIG_ITEM_V26TER, 8);
+NUMBER(TAILSPRIG_ITEM_V26BIS, 9);
+NUMBER(TAILSPRIG_ITEM_V23, 10);
+NUMBER(TAILSPRIG_ITEM_V23_HALF_DUPLEX, 11);
+NUMBER(TAILSPRIG_ITEM_V21, 12);
+
+NUMBER(TAILSPRIG_WITH_PCM, 0x0001);
+NUMBER(TAILSPRIG_V34, 0x0002);
+NUMBER(TAILSPRIG_V34_HALF_DUPLEX, 0x0004);
+NUMBER(TAILSPRIG_V32BIS, 0x0008);
+NUMBER(TAILSPRIG_V22BIS, 0x0010);
+NUMBER(TAILSPRIG_V17, 0x0020);
+NUMBER(TAILSPRIG_V29_HALF_DUPLEX, 0x0040);
+NUMBER(TAILSPRIG_V27TER, 0x0080);
+NUMBER(TAILSPRIG_V26TER, 0x0100);
+NUMBER(TAILSPRIG_V26BIS, 0x0200);
+NUMBER(TAILSPRIG_V23, 0x0400);
+NUMBER(TAILSPRIG_V23_HALF_DUPLEX, 0x0800);
+NUMBER(TAILSPRIG_V21, 0x1000);
+
+NUMBER(TAILSPRIG_PCM_ANALOGUE, 1);
+NUMBER(TAILSPRIG_PCM_DIGITAL, 2);
+NUMBER(TAILSPRIG_PCM_V91, 4);
+
+NUMBER(TAILSPRIG_ACCESS_CALLER_CELLULAR, 1);
+NUMBER(TAILSPRIG_ACCESS_ANSWERER_CELLULAR, 2);
+NUMBER(TAILSPRIG_ACCESS_DIGITAL, 4);
+
+NUMBER(TAILSPRIG_TAG_CALL_FUNCTION, 1);
+NUMBER(TAILSPRIG_TAG_MODULATION, 5);
+NUMBER(TAILSPRIG_TAG_PCM, 7);
+NUMBER(TAILSPRIG_TAG_PROTOCOL, 10);
+NUMBER(TAILSPRIG_TAG_ACCESS, 13);
+
+NUMBER(TAILSPRIG_MOST_OCTETS, 64);
+NUMBER(TAILSPRIG_MOST_BITS, 660);
+NUMBER(TAILSPRIG_OCTET_BITS, 10);
+NUMBER(TAILSPRIG_CJ_BITS, 30);
+NUMBER(TAILSPRIG_NOWHERE, 64);
+NUMBER(TAILSPRIG_MENU_MOST, 7);
+
+NUMBER(TAILSPRIG_HEARD_NOTHING, 0);
+NUMBER(TAILSPRIG_HEARD_CI, 1);
+NUMBER(TAILSPRIG_HEARD_MENU, 2);
+NUMBER(TAILSPRIG_HEARD_AGREED, 3);
+NUMBER(TAILSPRIG_HEARD_CJ, 4);
+
+NUMBER(TAILSPRIG_CALL_FUNCTION_NOWHERE, 0);
+NUMBER(TAILSPRIG_CALL_FUNCTION_HEARD, 1);
+NUMBER(TAILSPRIG_CALL_FUNCTION_OWN, 2);
+
+NUMBER(TAILSPRIG_CHOICE_NONE, 0);
+NUMBER(TAILSPRIG_PCM, 16);
+
+NUMBER(TAILSPRIG_CALLER, 1);
+NUMBER(TAILSPRIG_ANSWERER, 2);
+
+NUMBER(TAILSPRIG_STATE_CALLER_STILL, 1);
+NUMBER(TAILSPRIG_STATE_CALLING, 2);
+NUMBER(TAILSPRIG_STATE_QUIET, 3);
+NUMBER(TAILSPRIG_STATE_MENU, 4);
+NUMBER(TAILSPRIG_STATE_CLOSING, 5);
+NUMBER(TAILSPRIG_STATE_PAUSE, 6);
+NUMBER(TAILSPRIG_STATE_ANSWERER_STILL, 7);
+NUMBER(TAILSPRIG_STATE_ANSWERING, 8);
+NUMBER(TAILSPRIG_STATE_JOINT, 9);
+NUMBER(TAILSPRIG_STATE_OVER, 10);
+
+NUMBER(TAILSPRIG_ENDED_GOING, 0);
+NUMBER(TAILSPRIG_ENDED_LEFT, 1);
+NUMBER(TAILSPRIG_ENDED_LATE, 2);
+NUMBER(TAILSPRIG_ENDED_CLEARED, 3);
+NUMBER(TAILSPRIG_ENDED_NOT_OFFERED, 4);
+NUMBER(TAILSPRIG_ENDED_GO_ON, 5);
+
+NUMBER(TAILSPRIG_EVENT_ANSAM, 1);
+NUMBER(TAILSPRIG_EVENT_ANS, 2);
+NUMBER(TAILSPRIG_EVENT_SIG_A, 3);
+NUMBER(TAILSPRIG_EVENT_AGREED_JM, 4);
+NUMBER(TAILSPRIG_EVENT_CJ_SENT, 5);
+NUMBER(TAILSPRIG_EVENT_AGREED_CM, 6);
+NUMBER(TAILSPRIG_EVENT_SIG_C, 7);
+NUMBER(TAILSPRIG_EVENT_CJ, 8);
+NUMBER(TAILSPRIG_EVENT_TICK, 9);
+
+NUMBER(TAILSPRIG_ENDED, 16);
+NUMBER(TAILSPRIG_GO_ON, 32);
+
+NUMBER(TAILSPRIG_VERSION_MAJOR, 0);
+NUMBER(TAILSPRIG_VERSION_MINOR, 1);
+NUMBER(TAILSPRIG_VERSION_PATCH, 0);
+
+#endif
+
+static int failures;
+
+static void check(bool so, int line, const char *what)
+{
+    if (so)
+        return;
+    printf("tests/header.c:%d: not so: %s\n", line, what);
+    failures++;
+}
+
+#define CHECK(so) check((so), __LINE__, #so)
+
+/* The worked values of docs/document-01.md. */
+static const uint8_t CM[] = {0xC1, 0x45, 0x13, 0x90, 0x2A};
+static const uint8_t JM[] = {0xC1, 0x05, 0x13, 0x10};
+static const uint8_t JM_OF_NOTHING[] = {0xC1, 0x05, 0x10, 0x10};
+static const uint8_t PCM_CM[] = {0xC1, 0x65, 0x10, 0x10, 0x27, 0x0D};
+static const uint8_t PCM_JM[] = {0xC1, 0x65, 0x10, 0x10, 0x47, 0x8D};
+#define CM_BITS "1111111111" "0000001111" "0100000111" "0101000101" "0110010001" "0000010011" "0010101001"
+#define CI_BITS "1111111111" "0000000001" "0100000111"
+#define CJ_BITS "0000000001" "0000000001" "0000000001"
+
+/* The bits of a text, a byte for each. */
+static size_t bits_of(uint8_t *bits, const char *text)
+{
+    size_t len = strlen(text);
+
+    for (size_t i = 0; i < len; i++)
+        bits[i] = (uint8_t)(text[i] - '0');
+    return len;
+}
+
+static bool is_text(const uint8_t *bits, const char *text)
+{
+    uint8_t expected[256];
+
+    return memcmp(bits, expected, bits_of(expected, text)) == 0;
+}
+
+static void writing(void)
+{
+    const uint8_t bad[] = {0xC1, 0x18}, tag_0[] = {0xC1, 0x00};
+    uint8_t many[TAILSPRIG_MOST_OCTETS + 1], line[TAILSPRIG_MOST_BITS + 1];
+    unsigned wide = 256 + TAILSPRIG_MENU, copies = 65536;
+
+    memset(line, 7, sizeof line);
+    CHECK(tailsprig_write(TAILSPRIG_MENU, CM, sizeof CM, 1, line, 70) == 70);
+    CHECK(is_text(line, CM_BITS) && line[70] == 7);
+    CHECK((2 + sizeof CM) * TAILSPRIG_OCTET_BITS == 70);
+    CHECK(tailsprig_write(TAILSPRIG_CI, CM, 1, 2, line, sizeof line) == 60 && is_text(line, CI_BITS CI_BITS));
+    CHECK(tailsprig_write(3, CM, sizeof CM, 1, line, sizeof line) == -TAILSPRIG_BAD_RECORD);
+    CHECK(tailsprig_write(TAILSPRIG_MENU, CM, 0, 1, line, sizeof line) == -TAILSPRIG_NO_CALL_FUNCTION);
+    CHECK(tailsprig_write(TAILSPRIG_MENU, bad, sizeof bad, 1, line, sizeof line) == -TAILSPRIG_BAD_OCTET);
+    CHECK(tailsprig_write(TAILSPRIG_MENU, tag_0, sizeof tag_0, 1, line, sizeof line) == -TAILSPRIG_WRONG_CATEGORY);
+    CHECK(tailsprig_write(TAILSPRIG_CI, CM, sizeof CM, 1, line, sizeof line) == -TAILSPRIG_WRONG_CATEGORY);
+    CHECK(tailsprig_write(TAILSPRIG_MENU, CM, sizeof CM, 1, line, 69) == -TAILSPRIG_SHORT_BUFFER);
+    memset(many, 0x10, sizeof many);
+    many[0] = 0xC1;
+    CHECK(tailsprig_write(TAILSPRIG_MENU, many, TAILSPRIG_MOST_OCTETS, 1, line, sizeof line) == TAILSPRIG_MOST_BITS);
+    CHECK(tailsprig_write(TAILSPRIG_MENU, many, sizeof many, 1, line, sizeof line) == -TAILSPRIG_TOO_MANY_OCTETS);
+
+    /* Wider than the parameter: the compiler converts. */
+    CHECK(tailsprig_write(wide, CM, sizeof CM, 1, line, sizeof line) == 70);
+    CHECK(tailsprig_write(TAILSPRIG_MENU, CM, sizeof CM, copies, line, 1) == 0);
+
+    CHECK(tailsprig_write_cj(line, sizeof line) == TAILSPRIG_CJ_BITS && is_text(line, CJ_BITS));
+    CHECK(tailsprig_write_cj(line, TAILSPRIG_CJ_BITS - 1) == -TAILSPRIG_SHORT_BUFFER);
+}
+
+/* Hears a text with tailsprig_hear; the code of its last bit, or 99 where one before it reported something. */
+static int32_t hear(struct tailsprig_listener *rec, const char *text)
+{
+    int32_t code = 0;
+
+    for (; *text != '\0'; text++) {
+        if (code != 0)
+            return 99;
+        code = tailsprig_hear(rec, (uint8_t)(*text - '0'));
+    }
+    return code;
+}
+
+static void listening(void)
+{
+    struct tailsprig_listener rec = tailsprig_fresh(), none, kept;
+    struct tailsprig_ran ran;
+    uint8_t bits[256];
+    size_t len;
+
+    memset(&none, 0, sizeof none);
+    CHECK(memcmp(&rec, &none, sizeof rec) == 0);
+
+    /* In each part of the record the numbers differ. */
+    CHECK(hear(&rec, "1111111111" "000") == TAILSPRIG_HEARD_NOTHING);
+    CHECK(rec.ear.past == 0x1FF80000 && rec.ear.heard == 13 && rec.ear.place == 3);
+    CHECK(hear(&rec, "0001111" "0100000111" "0101000101" "0110010001") == TAILSPRIG_HEARD_NOTHING);
+    CHECK(rec.msg.kind == TAILSPRIG_MENU && rec.msg.len == 3 && memcmp(rec.msg.octets, CM, 3) == 0);
+    CHECK(rec.last.kind == 0 && rec.last.len == 0 && rec.ear.heard == 30 && rec.ear.place == 10);
+
+    rec = tailsprig_fresh();
+    CHECK(hear(&rec, CI_BITS "1111111111") == TAILSPRIG_HEARD_CI);
+    CHECK(hear(&rec, "0000001111" "0100000111" "0101000101" "0110010001" "0000010011" "0010101001" "1111111111") ==
+          TAILSPRIG_HEARD_MENU);
+    CHECK(rec.msg.len == sizeof CM && memcmp(rec.msg.octets, CM, sizeof CM) == 0);
+    CHECK(hear(&rec, "0000001111") == TAILSPRIG_HEARD_NOTHING);
+    CHECK(rec.msg.len == 0 && rec.last.kind == TAILSPRIG_MENU && rec.last.len == sizeof CM);
+    CHECK(memcmp(rec.last.octets, CM, sizeof CM) == 0);
+    CHECK(hear(&rec, "0100000111" "0101000101" "0110010001" "0000010011" "0010101001" "1111111111") ==
+          TAILSPRIG_HEARD_AGREED);
+    CHECK(hear(&rec, CJ_BITS) == TAILSPRIG_HEARD_CJ);
+
+    kept = rec;
+    CHECK(tailsprig_hear(&rec, 2) == -TAILSPRIG_NOT_A_BIT && memcmp(&rec, &kept, sizeof rec) == 0);
+    rec.ear.heard = 31;
+    CHECK(tailsprig_hear(&rec, 1) == -TAILSPRIG_BAD_RECORD && rec.ear.heard == 31);
+    rec = tailsprig_fresh();
+    rec.ear.place = 29;
+    CHECK(tailsprig_hear(&rec, 1) == -TAILSPRIG_BAD_RECORD);
+    rec = tailsprig_fresh();
+    rec.msg.kind = 3;
+    CHECK(tailsprig_hear(&rec, 1) == -TAILSPRIG_BAD_RECORD);
+    rec = tailsprig_fresh();
+    rec.last.len = 65;
+    CHECK(tailsprig_hear(&rec, 1) == -TAILSPRIG_BAD_RECORD);
+
+    rec = tailsprig_fresh();
+    CHECK(hear(&rec, "1111111111" "0000001111" "0100000110") == -TAILSPRIG_STOP_BIT_ZERO);
+    CHECK(hear(&rec, "1111111111" "0000001111" "0000110001") == -TAILSPRIG_BAD_OCTET);
+    CHECK(hear(&rec, "1111111111" "0000001111" "0100000111" "10") == -TAILSPRIG_CUT_SHORT);
+    CHECK(hear(&rec, "1111111111" "0000001111") == TAILSPRIG_HEARD_NOTHING);
+    for (int i = 0; i < TAILSPRIG_MOST_OCTETS; i++)
+        CHECK(hear(&rec, "0100000111") == TAILSPRIG_HEARD_NOTHING);
+    CHECK(hear(&rec, "0100000111") == -TAILSPRIG_TOO_MANY_OCTETS);
+
+    len = bits_of(bits, CM_BITS CM_BITS "1111111111");
+    ran = tailsprig_hear_many(tailsprig_fresh(), bits, len);
+    CHECK(ran.code == TAILSPRIG_HEARD_MENU && ran.taken == 80 && ran.rec.msg.len == sizeof CM);
+    ran = tailsprig_hear_many(ran.rec, bits + ran.taken, len - ran.taken);
+    CHECK(ran.code == TAILSPRIG_HEARD_AGREED && ran.taken == 70 && ran.rec.last.len == sizeof CM);
+    ran = tailsprig_hear_many(ran.rec, bits, 9);
+    CHECK(ran.code == TAILSPRIG_HEARD_NOTHING && ran.taken == 9);
+    ran.rec.ear.place = 29;
+    ran = tailsprig_hear_many(ran.rec, bits, len);
+    CHECK(ran.code == -TAILSPRIG_BAD_RECORD && ran.taken == 0 && ran.rec.ear.place == 29);
+
+    /* A record that is kept over calls agrees at the first copy of the next; one that is made fresh does not. */
+    rec = tailsprig_fresh();
+    CHECK(hear(&rec, CM_BITS "1111111111") == TAILSPRIG_HEARD_MENU);
+    kept = rec;
+    CHECK(hear(&kept, CM_BITS "1111111111") == TAILSPRIG_HEARD_AGREED);
+    rec = tailsprig_fresh();
+    CHECK(hear(&rec, CM_BITS "1111111111") == TAILSPRIG_HEARD_MENU);
+
+    /* Without carrier: no bits leave a message open, 1s end it. */
+    rec = tailsprig_fresh();
+    CHECK(hear(&rec, CM_BITS) == TAILSPRIG_HEARD_NOTHING);
+    CHECK(hear(&rec, "1111111111") == TAILSPRIG_HEARD_MENU);
+}
+
+/* The functions by their first octets, and the items by where V.8 has them, in Tables 3 and 4. */
+static void names_in_menus(void)
+{
+    static const struct {
+        uint8_t octet, function;
+    } functions[] = {
+        {0x21, TAILSPRIG_FUNCTION_H324},     {0x41, TAILSPRIG_FUNCTION_TEXTPHONE},    {0x61, TAILSPRIG_FUNCTION_VIDEOTEX},
+        {0x81, TAILSPRIG_FUNCTION_FAX_SENT}, {0xA1, TAILSPRIG_FUNCTION_FAX_RECEIVED}, {0xC1, TAILSPRIG_FUNCTION_DATA},
+    };
+    static const struct {
+        uint8_t modulation[3], item;
+        uint16_t items;
+    } items[] = {
+        {{0x45, 0x10, 0x10}, TAILSPRIG_ITEM_V34, TAILSPRIG_V34},
+        {{0x85, 0x10, 0x10}, TAILSPRIG_ITEM_V34_HALF_DUPLEX, TAILSPRIG_V34_HALF_DUPLEX},
+        {{0x05, 0x11, 0x10}, TAILSPRIG_ITEM_V32BIS, TAILSPRIG_V32BIS},
+        {{0x05, 0x12, 0x10}, TAILSPRIG_ITEM_V22BIS, TAILSPRIG_V22BIS},
+        {{0x05, 0x14, 0x10}, TAILSPRIG_ITEM_V17, TAILSPRIG_V17},
+        {{0x05, 0x50, 0x10}, TAILSPRIG_ITEM_V29_HALF_DUPLEX, TAILSPRIG_V29_HALF_DUPLEX},
+        {{0x05, 0x90, 0x10}, TAILSPRIG_ITEM_V27TER, TAILSPRIG_V27TER},
+        {{0x05, 0x10, 0x11}, TAILSPRIG_ITEM_V26TER, TAILSPRIG_V26TER},
+        {{0x05, 0x10, 0x12}, TAILSPRIG_ITEM_V26BIS, TAILSPRIG_V26BIS},
+        {{0x05, 0x10, 0x14}, TAILSPRIG_ITEM_V23, TAILSPRIG_V23},
+        {{0x05, 0x10, 0x50}, TAILSPRIG_ITEM_V23_HALF_DUPLEX, TAILSPRIG_V23_HALF_DUPLEX},
+        {{0x05, 0x10, 0x90}, TAILSPRIG_ITEM_V21, TAILSPRIG_V21},
+    };
+
+    for (size_t i = 0; i < sizeof functions / sizeof functions[0]; i++)
+        CHECK(tailsprig_read(&functions[i].octet, 1).offer.function == functions[i].function);
+    for (size_t i = 0; i < sizeof items / sizeof items[0]; i++) {
+        uint8_t menu[] = {0xC1, items[i].modulation[0], items[i].modulation[1], items[i].modulation[2]};
+
+        CHECK(tailsprig_read(menu, sizeof menu).offer.items == items[i].items);
+        CHECK(tailsprig_choice(menu, sizeof menu, menu, sizeof menu) == items[i].item);
+    }
+}
+
+/* The PCM and access options of a menu with these two octets. */
+static bool offers(uint8_t pcm_octet, uint8_t access_octet, uint8_t pcm, uint8_t access)
+{
+    const uint8_t menu[] = {0xC1, 0x65, 0x10, 0x10, pcm_octet, access_octet};
+    struct tailsprig_menu_read menu_read = tailsprig_read(menu, sizeof menu);
+
+    return menu_read.code == 0 && menu_read.offer.pcm == pcm && menu_read.offer.access_options == access;
+}
+
+static void menus(void)
+{
+    const uint8_t every[] = {0xC1, 0x65, 0x10, 0x10, 0x47, 0x2A, 0x8D};
+    const uint8_t bad[] = {0xC1, 0x18};
+    struct tailsprig_menu_read menu_read = tailsprig_read(PCM_JM, sizeof PCM_JM);
+
+    CHECK(menu_read.code == 0 && menu_read.offer.function == TAILSPRIG_FUNCTION_DATA);
+    CHECK(menu_read.offer.items == (TAILSPRIG_WITH_PCM | TAILSPRIG_V34) && menu_read.offer.pcm == TAILSPRIG_PCM_DIGITAL);
+    CHECK(!menu_read.offer.lapm && menu_read.offer.access);
+    CHECK(menu_read.offer.access_options == TAILSPRIG_ACCESS_DIGITAL);
+    menu_read = tailsprig_read(CM, sizeof CM);
+    CHECK(menu_read.offer.items == (TAILSPRIG_V34 | TAILSPRIG_V32BIS | TAILSPRIG_V22BIS | TAILSPRIG_V21));
+    CHECK(menu_read.offer.lapm && !menu_read.offer.access && menu_read.offer.pcm == 0);
+    menu_read = tailsprig_read(bad, sizeof bad);
+    CHECK(menu_read.code == -TAILSPRIG_BAD_OCTET && menu_read.offer.function == 0 && menu_read.offer.items == 0);
+
+    CHECK(offers(0x27, 0x2D, TAILSPRIG_PCM_ANALOGUE, TAILSPRIG_ACCESS_CALLER_CELLULAR));
+    CHECK(offers(0x47, 0x4D, TAILSPRIG_PCM_DIGITAL, TAILSPRIG_ACCESS_ANSWERER_CELLULAR));
+    CHECK(offers(0x87, 0x8D, TAILSPRIG_PCM_V91, TAILSPRIG_ACCESS_DIGITAL));
+    CHECK(offers(0x27, 0x27, 0, 0));
+
+    CHECK(tailsprig_find(every, sizeof every, TAILSPRIG_TAG_CALL_FUNCTION) == 0);
+    CHECK(tailsprig_find(every, sizeof every, TAILSPRIG_TAG_MODULATION) == 1);
+    CHECK(tailsprig_find(every, sizeof every, TAILSPRIG_TAG_PCM) == 4);
+    CHECK(tailsprig_find(every, sizeof every, TAILSPRIG_TAG_PROTOCOL) == 5);
+    CHECK(tailsprig_find(every, sizeof every, TAILSPRIG_TAG_ACCESS) == 6);
+    CHECK(tailsprig_find(every, sizeof every, 15) == TAILSPRIG_NOWHERE);
+    CHECK(tailsprig_find(every, 0, 1) == -TAILSPRIG_NO_CALL_FUNCTION);
+    CHECK(tailsprig_part(every, sizeof every, 1) == 3 && tailsprig_part(every, sizeof every, 2) == 0);
+    names_in_menus();
+}
+
+/* A record with one function. */
+static struct tailsprig_record with_function(uint8_t function, uint8_t pcm, uint16_t items)
+{
+    struct tailsprig_record own;
+
+    memset(&own, 0, sizeof own);
+    own.functions[function - 1].available = 1;
+    own.functions[function - 1].pcm = pcm;
+    own.functions[function - 1].items = items;
+    own.home = function;
+    return own;
+}
+
+static bool makes_cm(struct tailsprig_record own, uint8_t function, const uint8_t *menu, size_t len)
+{
+    uint8_t made[TAILSPRIG_MENU_MOST];
+
+    return tailsprig_cm(own, function, made, sizeof made) == (int32_t)len && memcmp(made, menu, len) == 0;
+}
+
+static bool makes_jm(struct tailsprig_record own, const uint8_t *heard, size_t heard_len, const uint8_t *menu, size_t len)
+{
+    uint8_t made[TAILSPRIG_MENU_MOST];
+
+    return tailsprig_jm(own, heard, heard_len, made, sizeof made) == (int32_t)len && memcmp(made, menu, len) == 0;
+}
+
+static void records(void)
+{
+    const uint16_t no_pcm = TAILSPRIG_V32BIS | TAILSPRIG_V22BIS | TAILSPRIG_V26TER;
+    const uint8_t fax[] = {0x81, 0x05, 0x14, 0x10};
+    const uint8_t with_lapm[] = {0xC1, 0x05, 0x13, 0x11, 0x2A}, with_access[] = {0xC1, 0x05, 0x13, 0x11, 0x0D};
+    const uint8_t cellular[] = {0xC1, 0x05, 0x13, 0x11, 0x2D}, digital[] = {0xC1, 0x05, 0x13, 0x11, 0x8D};
+    const uint8_t alone[] = {0xC1, 0x05, 0x13, 0x11};
+    const uint8_t most[] = {0xC1, 0x65, 0x10, 0x10, 0xE7, 0x2A, 0xAD};
+    struct tailsprig_record own = with_function(TAILSPRIG_FUNCTION_FAX_SENT, 0, TAILSPRIG_V17), base;
+    uint8_t made[TAILSPRIG_MENU_MOST];
+
+    CHECK(makes_cm(own, TAILSPRIG_FUNCTION_FAX_SENT, fax, sizeof fax));
+    CHECK(tailsprig_cm(own, TAILSPRIG_FUNCTION_DATA, made, sizeof made) == -TAILSPRIG_NO_CALL_FUNCTION);
+    CHECK(tailsprig_cm(own, TAILSPRIG_FUNCTION_FAX_SENT, made, 3) == -TAILSPRIG_SHORT_BUFFER);
+    own.home = TAILSPRIG_FUNCTION_DATA;
+    CHECK(tailsprig_cm(own, TAILSPRIG_FUNCTION_FAX_SENT, made, sizeof made) == -TAILSPRIG_BAD_RECORD);
+    own = with_function(TAILSPRIG_FUNCTION_DATA, 0, TAILSPRIG_WITH_PCM);
+    CHECK(tailsprig_cm(own, TAILSPRIG_FUNCTION_DATA, made, sizeof made) == -TAILSPRIG_BAD_RECORD);
+    own = with_function(TAILSPRIG_FUNCTION_DATA, TAILSPRIG_PCM_ANALOGUE, TAILSPRIG_V32BIS);
+    CHECK(tailsprig_cm(own, TAILSPRIG_FUNCTION_DATA, made, sizeof made) == -TAILSPRIG_BAD_RECORD);
+
+    /* What each number of a record brings into a CM. */
+    base = with_function(TAILSPRIG_FUNCTION_DATA, 0, no_pcm);
+    CHECK(makes_cm(base, TAILSPRIG_FUNCTION_DATA, alone, sizeof alone));
+    own = base;
+    own.lapm = 1;
+    CHECK(makes_cm(own, TAILSPRIG_FUNCTION_DATA, with_lapm, sizeof with_lapm));
+    own = base;
+    own.cellular = 1;
+    CHECK(makes_cm(own, TAILSPRIG_FUNCTION_DATA, alone, sizeof alone));
+    own.access = 1;
+    CHECK(makes_cm(own, TAILSPRIG_FUNCTION_DATA, cellular, sizeof cellular));
+    own.cellular = 0;
+    CHECK(makes_cm(own, TAILSPRIG_FUNCTION_DATA, with_access, sizeof with_access));
+    own.digital = 1;
+    CHECK(makes_cm(own, TAILSPRIG_FUNCTION_DATA, digital, sizeof digital));
+    own = with_function(TAILSPRIG_FUNCTION_DATA, TAILSPRIG_PCM_ANALOGUE, TAILSPRIG_V34);
+    CHECK(makes_cm(own, TAILSPRIG_FUNCTION_DATA, PCM_CM, sizeof PCM_CM));
+    own.functions[TAILSPRIG_FUNCTION_DATA - 1].pcm = TAILSPRIG_PCM_ANALOGUE | TAILSPRIG_PCM_DIGITAL | TAILSPRIG_PCM_V91;
+    own.lapm = own.access = own.cellular = own.digital = 1;
+    CHECK(makes_cm(own, TAILSPRIG_FUNCTION_DATA, most, sizeof most) && sizeof most == TAILSPRIG_MENU_MOST);
+
+    CHECK(makes_jm(base, CM, sizeof CM, JM, sizeof JM));
+    CHECK(tailsprig_jm(base, CM, 0, made, sizeof made) == -TAILSPRIG_NO_CALL_FUNCTION);
+    own = with_function(TAILSPRIG_FUNCTION_DATA, TAILSPRIG_PCM_DIGITAL, TAILSPRIG_V34 | TAILSPRIG_V32BIS);
+    own.digital = 1;
+    CHECK(makes_jm(own, PCM_CM, sizeof PCM_CM, PCM_JM, sizeof PCM_JM));
+
+    CHECK(tailsprig_call_function(base, CM, sizeof CM, JM, sizeof JM) == TAILSPRIG_CALL_FUNCTION_HEARD);
+    CHECK(tailsprig_call_function(base, fax, sizeof fax, JM, sizeof JM) == TAILSPRIG_CALL_FUNCTION_OWN);
+    CHECK(tailsprig_call_function(base, CM, sizeof CM, JM, 0) == TAILSPRIG_CALL_FUNCTION_NOWHERE);
+}
+
+static void choice(void)
+{
+    CHECK(tailsprig_choice(CM, sizeof CM, JM, sizeof JM) == TAILSPRIG_ITEM_V32BIS);
+    CHECK(tailsprig_choice(CM, sizeof CM, JM_OF_NOTHING, sizeof JM_OF_NOTHING) == TAILSPRIG_CHOICE_NONE);
+    CHECK(tailsprig_choice(PCM_CM, sizeof PCM_CM, PCM_JM, sizeof PCM_JM) == TAILSPRIG_PCM + TAILSPRIG_PCM_DIGITAL);
+    CHECK(tailsprig_choice(PCM_JM, sizeof PCM_JM, PCM_CM, sizeof PCM_CM) == TAILSPRIG_PCM + TAILSPRIG_PCM_ANALOGUE);
+    CHECK(tailsprig_choice(JM, sizeof JM, CM, sizeof CM) == -TAILSPRIG_NOT_OFFERED);
+    CHECK(tailsprig_choice(CM, 0, JM, sizeof JM) == -TAILSPRIG_NO_CALL_FUNCTION);
+}
+
+/* What an event so long after the last change of state is answered; where it changes something, `session` is what is left. */
+static int32_t after(struct tailsprig_session *session, uint8_t event, int32_t value, uint32_t elapsed)
+{
+    struct tailsprig_step_taken taken = tailsprig_step(*session, event, value, session->entry + elapsed);
+
+    *session = taken.session;
+    return taken.code;
+}
+
+/* A tick does nothing before the limit of the state, and leads on at it. */
+static bool ends_at(struct tailsprig_session *session, uint32_t limit, int32_t code)
+{
+    return after(session, TAILSPRIG_EVENT_TICK, 0, limit - 1) == 0 && after(session, TAILSPRIG_EVENT_TICK, 0, limit) == code;
+}
+
+/* A state without a limit: no tick ends it, as far as the clock reaches. */
+static bool lasts(struct tailsprig_session session)
+{
+    return after(&session, TAILSPRIG_EVENT_TICK, 0, 0x7FFFFFFF) == 0;
+}
+
+/* With ticks 5 ms apart, whenever they fall, a pause is 75 ms long within 5. */
+static bool pauses_in_time(struct tailsprig_session session)
+{
+    for (uint32_t elapsed = 0; elapsed < 5; elapsed++) {
+        struct tailsprig_session paused = session;
+        uint32_t tick = elapsed;
+
+        while (after(&paused, TAILSPRIG_EVENT_TICK, 0, tick) == 0)
+            tick += 5;
+        if (tick < 70 || tick > 80)
+            return false;
+    }
+    return true;
+}
+
+static void the_caller(void)
+{
+    struct tailsprig_caller_start started = tailsprig_start_caller(5, 700);
+    struct tailsprig_session session = started.session, other;
+
+    CHECK(started.code == 0 && session.entry == 5 && session.te == 700 && session.end == TAILSPRIG_CALLER);
+    CHECK(session.state == TAILSPRIG_STATE_CALLER_STILL && session.chosen == 0 && session.ended == TAILSPRIG_ENDED_GOING);
+    CHECK(tailsprig_start_caller(5, 500).code == 0 && tailsprig_start_caller(5, 5000).code == 0);
+    started = tailsprig_start_caller(5, 499);
+    CHECK(started.code == -TAILSPRIG_BAD_RECORD && started.session.entry == 0 && started.session.end == 0);
+    CHECK(tailsprig_start_caller(5, 5001).code == -TAILSPRIG_BAD_RECORD);
+    other = tailsprig_start_caller_default(9);
+    CHECK(other.entry == 9 && other.te == 500 && other.end == TAILSPRIG_CALLER);
+
+    /* With a Te of 5,000 CM starts no sooner than ANSam ends, even where the caller hears ANSam at once. */
+    other = tailsprig_start_caller(0, 5000).session;
+    CHECK(ends_at(&other, 1000, TAILSPRIG_STATE_CALLING));
+    CHECK(after(&other, TAILSPRIG_EVENT_ANSAM, 0, 0) == TAILSPRIG_STATE_QUIET && ends_at(&other, 5000, TAILSPRIG_STATE_MENU));
+
+    /* A tone that is told once, too early, is lost. */
+    CHECK(after(&session, TAILSPRIG_EVENT_ANSAM, 0, 999) == 0);
+    CHECK(ends_at(&session, 1000, TAILSPRIG_STATE_CALLING) && session.entry == 1005 && lasts(session));
+    other = session;
+    CHECK(after(&other, TAILSPRIG_EVENT_ANS, 0, 1) == TAILSPRIG_ENDED + TAILSPRIG_ENDED_LEFT);
+    other = session;
+    CHECK(after(&other, TAILSPRIG_EVENT_SIG_A, 0, 1) == TAILSPRIG_ENDED + TAILSPRIG_ENDED_LEFT);
+    CHECK(after(&session, TAILSPRIG_EVENT_ANSAM, 0, 1) == TAILSPRIG_STATE_QUIET);
+    CHECK(ends_at(&session, 700, TAILSPRIG_STATE_MENU));
+    other = session;
+    CHECK(ends_at(&other, 10000, TAILSPRIG_ENDED + TAILSPRIG_ENDED_LATE));
+    other = session;
+    CHECK(after(&other, TAILSPRIG_EVENT_AGREED_JM, -TAILSPRIG_NOT_OFFERED, 1) == TAILSPRIG_ENDED + TAILSPRIG_ENDED_NOT_OFFERED);
+    other = session;
+    CHECK(after(&other, TAILSPRIG_EVENT_AGREED_JM, TAILSPRIG_CHOICE_NONE, 1) == TAILSPRIG_STATE_CLOSING);
+    CHECK(after(&other, TAILSPRIG_EVENT_CJ_SENT, 0, 1) == TAILSPRIG_ENDED + TAILSPRIG_ENDED_CLEARED);
+    CHECK(after(&session, TAILSPRIG_EVENT_AGREED_JM, TAILSPRIG_ITEM_V22BIS, 1) == TAILSPRIG_STATE_CLOSING);
+    CHECK(session.end == TAILSPRIG_CALLER && session.state == TAILSPRIG_STATE_CLOSING && session.chosen == 4 && session.ended == 0);
+    CHECK(lasts(session));
+    CHECK(after(&session, TAILSPRIG_EVENT_CJ_SENT, 0, 100) == TAILSPRIG_STATE_PAUSE && pauses_in_time(session));
+    CHECK(ends_at(&session, 75, TAILSPRIG_GO_ON + TAILSPRIG_ITEM_V22BIS));
+    CHECK(session.end == 1 && session.state == TAILSPRIG_STATE_OVER && session.chosen == 4 && session.ended == TAILSPRIG_ENDED_GO_ON);
+    CHECK(after(&session, TAILSPRIG_EVENT_TICK, 0, 0) == -TAILSPRIG_AFTER_OVER);
+}
+
+/* An answerer that has agreed to a choice. */
+static struct tailsprig_session joint(int32_t chosen)
+{
+    struct tailsprig_session session = tailsprig_start_answerer(0);
+
+    after(&session, TAILSPRIG_EVENT_TICK, 0, 200);
+    CHECK(after(&session, TAILSPRIG_EVENT_AGREED_CM, chosen, 1) == TAILSPRIG_STATE_JOINT);
+    return session;
+}
+
+static void the_answerer(void)
+{
+    struct tailsprig_session session = tailsprig_start_answerer(7), other;
+
+    CHECK(session.entry == 7 && session.te == 0 && session.end == TAILSPRIG_ANSWERER);
+    CHECK(session.state == TAILSPRIG_STATE_ANSWERER_STILL && session.chosen == 0 && session.ended == 0);
+    CHECK(ends_at(&session, 200, TAILSPRIG_STATE_ANSWERING));
+
+    /* Every sigC leads to left while answering, and so does the limit. */
+    for (int32_t item = 1; item <= 12; item++) {
+        other = session;
+        CHECK(after(&other, TAILSPRIG_EVENT_SIG_C, item, 1) == TAILSPRIG_STATE_PAUSE);
+        CHECK(ends_at(&other, 75, TAILSPRIG_ENDED + TAILSPRIG_ENDED_LEFT));
+    }
+    other = session;
+    CHECK(ends_at(&other, 5000, TAILSPRIG_STATE_PAUSE) && ends_at(&other, 75, TAILSPRIG_ENDED + TAILSPRIG_ENDED_LEFT));
+
+    other = joint(TAILSPRIG_CHOICE_NONE);
+    CHECK(after(&other, TAILSPRIG_EVENT_CJ, 0, 1) == TAILSPRIG_ENDED + TAILSPRIG_ENDED_CLEARED);
+    other = joint(TAILSPRIG_ITEM_V21);
+    CHECK(ends_at(&other, 10000, TAILSPRIG_ENDED + TAILSPRIG_ENDED_LATE));
+    other = joint(TAILSPRIG_ITEM_V21);
+    CHECK(after(&other, TAILSPRIG_EVENT_CJ, 0, 1) == TAILSPRIG_STATE_PAUSE && pauses_in_time(other));
+    CHECK(ends_at(&other, 75, TAILSPRIG_GO_ON + TAILSPRIG_ITEM_V21));
+
+    /* CJ is lost: the sigC of the chosen item does, another does not, and none does where PCM was chosen. */
+    other = joint(TAILSPRIG_ITEM_V32BIS);
+    CHECK(after(&other, TAILSPRIG_EVENT_SIG_C, TAILSPRIG_ITEM_V34, 1) == 0);
+    CHECK(after(&other, TAILSPRIG_EVENT_SIG_C, TAILSPRIG_ITEM_V32BIS, 1) == TAILSPRIG_STATE_PAUSE);
+    other = joint(TAILSPRIG_PCM + TAILSPRIG_PCM_V91);
+    for (int32_t item = 1; item <= 12; item++)
+        CHECK(after(&other, TAILSPRIG_EVENT_SIG_C, item, 1) == 0);
+    CHECK(after(&other, TAILSPRIG_EVENT_CJ, 0, 9999) == TAILSPRIG_STATE_PAUSE);
+    CHECK(ends_at(&other, 75, TAILSPRIG_GO_ON + TAILSPRIG_PCM + TAILSPRIG_PCM_V91));
+}
+
+static void refused_events(void)
+{
+    struct tailsprig_session session = tailsprig_start_caller_default(1000), kept = session;
+
+    CHECK(after(&session, TAILSPRIG_EVENT_CJ, 0, 1) == -TAILSPRIG_WRONG_EVENT);
+    CHECK(after(&session, 10, 0, 1) == -TAILSPRIG_WRONG_EVENT && after(&session, 0, 0, 1) == -TAILSPRIG_WRONG_EVENT);
+    CHECK(after(&session, TAILSPRIG_EVENT_AGREED_JM, 13, 1) == -TAILSPRIG_WRONG_EVENT);
+
+    /* The clock went back, or half its range has passed; with a time that is not before the entry time the event counts. */
+    CHECK(after(&session, TAILSPRIG_EVENT_TICK, 0, (uint32_t)-1) == -TAILSPRIG_CLOCK);
+    CHECK(after(&session, TAILSPRIG_EVENT_TICK, 0, 0x80000000) == -TAILSPRIG_CLOCK && 0x80000000 / 86400000 == 24);
+    CHECK(memcmp(&session, &kept, sizeof session) == 0 && after(&session, TAILSPRIG_EVENT_TICK, 0, 0) == 0);
+
+    session.state = TAILSPRIG_STATE_JOINT;
+    CHECK(after(&session, TAILSPRIG_EVENT_TICK, 0, 1) == -TAILSPRIG_BAD_RECORD);
+}
+
+#define TEXT(number) #number
+#define TEXT_OF(number) TEXT(number)
+
+static void version(void)
+{
+    const char *numbers = TEXT_OF(TAILSPRIG_VERSION_MAJOR) "." TEXT_OF(TAILSPRIG_VERSION_MINOR) "." TEXT_OF(
+        TAILSPRIG_VERSION_PATCH);
+
+    CHECK(strcmp(TAILSPRIG_VERSION, numbers) == 0);
+}
+
+int main(void)
+{
+    writing();
+    listening();
+    menus();
+    records();
+    choice();
+    the_caller();
+    the_answerer();
+    refused_events();
+    version();
+    return failures == 0 ? 0 : 1;
+}
