@@ -4,6 +4,7 @@
  * Link target/staticlib/libtailsprig.a (x86-64 Linux). Every call is proved: it takes every input, reads and writes only
  * what it is lent, and always returns. The library keeps no state, allocates nothing and reads no clock, so calls on
  * different memory may run at the same time.
+ * What has to be believed for that, and what an input is, is in docs/TRUST.md.
  *
  * Rules for every call
  *   - A pointer is never NULL, not even with a length of 0, and points at as many bytes as its length says.
