@@ -93,15 +93,27 @@ fn calls(source: &str) -> BTreeMap<String, BTreeSet<String>> {
             name = rest.chars().take_while(|c| c.is_alphanumeric() || *c == '_').collect();
             bodies.insert(name.clone(), String::new());
         } else if let Some(body) = bodies.get_mut(&name) {
-            body.push_str(line);
+            body.push_str(line.split("//").next().unwrap_or_default());
             body.push('\n');
         }
     }
+    // A name in front of a parenthesis; behind `::` it would be a function of another crate.
     let named = |body: &String| {
-        let words = body.split(|c: char| !(c.is_alphanumeric() || c == '_')).map(str::to_string);
-        words.filter(|word| bodies.contains_key(word)).collect()
+        let heads = body.split('(').map(|head| head.rsplit(|c: char| !(c.is_alphanumeric() || "_:".contains(c))).next());
+        heads.flatten().map(str::to_string).filter(|word| bodies.contains_key(word)).collect()
     };
     bodies.iter().map(|(name, body)| (name.clone(), named(body))).collect()
+}
+
+/// These functions, and all that they lead to.
+fn reached(first: &BTreeSet<String>, calls: &BTreeMap<String, BTreeSet<String>>) -> BTreeSet<String> {
+    let mut reached = first.clone();
+    let mut open: Vec<String> = first.iter().cloned().collect();
+    while let Some(next) = open.pop() {
+        let called = calls[&next].iter().filter(|called| reached.insert((*called).clone())).cloned().collect::<Vec<_>>();
+        open.extend(called);
+    }
+    reached
 }
 
 /// What definitions, laws, functions, types, constants and wrong programs are called in a crate.
@@ -207,12 +219,7 @@ fn every_public_function_has_its_wrong_programs() {
             .flat_map(|path| wrong_programs(&read(path)).map(|(_, place)| place).collect::<Vec<_>>())
             .collect();
         for name in public_functions(&source).into_keys() {
-            let mut reached = BTreeSet::from([name.clone()]);
-            let mut open = vec![name.clone()];
-            while let Some(next) = open.pop() {
-                let called = calls[&next].iter().filter(|called| reached.insert((*called).clone())).cloned().collect::<Vec<_>>();
-                open.extend(called);
-            }
+            let reached = reached(&BTreeSet::from([name.clone()]), &calls);
             let tried = wrong.iter().filter(|place| reached.contains(*place)).count();
             if tried < 2 {
                 lacking.push(format!("{krate}::{name}: {tried}"));
@@ -413,4 +420,47 @@ fn every_quotation_above_a_definition_is_exact() {
     }
     assert!(found > 150, "{found} quotations were found");
     assert!(wrong.is_empty(), "neither in 01 nor in the demands: {wrong:#?}");
+}
+
+/// What is read aloud is what stands in the crates today: each block of `docs/READING.md` names its file.
+#[test]
+fn what_is_read_aloud_is_the_text_of_its_file() {
+    let page = read(&root().join("docs/READING.md"));
+    let mut definitions = 0;
+    for block in page.split("\n```").skip(1).step_by(2) {
+        let (fence, text) = block.split_once('\n').expect("a block has a first line");
+        let (_, path) = fence.split_once(' ').unwrap_or_else(|| panic!("the block '{fence}' names no file"));
+        let file = read(&root().join(path));
+        for paragraph in text.split("\n\n") {
+            assert!(format!("\n{file}").contains(&format!("\n{paragraph}\n")), "{path} does not have:\n{paragraph}");
+        }
+        definitions += usize::from(path.contains("/specs/"));
+    }
+    assert!(definitions > 1, "{definitions} definitions are read aloud");
+}
+
+/// The file `KIT` keeps the line; the pages that name the kit say the same.
+#[test]
+fn the_pages_name_the_kit_that_is_kept() {
+    let kept = read(&root().join("KIT"));
+    let (kit, rest) = kept.split_once('\n').expect("the file is one line");
+    assert!(kit.contains(" logic ") && rest.is_empty(), "the line of a kit: '{kept}'");
+    let sum = kit.rsplit(' ').next().unwrap_or_default();
+    for page in ["README.md", "docs/TRUST.md"] {
+        let text = read(&root().join(page));
+        assert!(text.contains(&format!("`{kit}`")), "{page} does not name {kit}");
+    }
+    let verdict = read(&root().join("docs/TRUST.md"));
+    assert!(verdict.contains(&format!(" sum={sum} ")), "the verdict in docs/TRUST.md is of another logic than {sum}");
+}
+
+/// `docs/TRUST.md` says so of the stack.
+#[test]
+fn no_function_of_the_library_calls_itself() {
+    for krate in crates().iter().filter(|krate| !PROGRAMS.contains(&krate.as_str())) {
+        let calls = calls(&read(&root().join("crates").join(krate).join("src/lib.rt")));
+        for name in calls.keys() {
+            assert!(!reached(&calls[name], &calls).contains(name), "{krate}::{name} calls itself");
+        }
+    }
 }
