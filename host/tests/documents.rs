@@ -454,6 +454,16 @@ fn the_pages_name_the_kit_that_is_kept() {
     assert!(verdict.contains(&format!(" sum={sum} ")), "the verdict in docs/TRUST.md is of another logic than {sum}");
 }
 
+/// What a promise says can be read in definitions alone.
+#[test]
+fn no_promise_of_the_library_cites_a_proof() {
+    for krate in crates().iter().filter(|krate| !PROGRAMS.contains(&krate.as_str())) {
+        let source = read(&root().join("crates").join(krate).join("src/lib.rt"));
+        let cited: Vec<&str> = source.lines().filter(|line| line.starts_with("ghost use") && line.contains(".proofs.")).collect();
+        assert!(cited.is_empty(), "{krate} cites {cited:?}");
+    }
+}
+
 /// `docs/TRUST.md` says so of the stack.
 #[test]
 fn no_function_of_the_library_calls_itself() {
