@@ -1,5 +1,5 @@
-//! The documents say what is there: every public function is listed with its promise, and every name in a table of
-//! `docs/PROMISES.md` stands for something in the repository.
+//! The documents say what is there: every public function is listed with its promise, every name in a table of `docs/PROMISES.md`
+//! stands for something in the repository, and what definitions quote are the customer's words.
 use std::collections::{BTreeMap, BTreeSet};
 use std::fs;
 use std::path::{Path, PathBuf};
@@ -93,15 +93,27 @@ fn calls(source: &str) -> BTreeMap<String, BTreeSet<String>> {
             name = rest.chars().take_while(|c| c.is_alphanumeric() || *c == '_').collect();
             bodies.insert(name.clone(), String::new());
         } else if let Some(body) = bodies.get_mut(&name) {
-            body.push_str(line);
+            body.push_str(line.split("//").next().unwrap_or_default());
             body.push('\n');
         }
     }
+    // A name in front of a parenthesis; behind `::` it would be a function of another crate.
     let named = |body: &String| {
-        let words = body.split(|c: char| !(c.is_alphanumeric() || c == '_')).map(str::to_string);
-        words.filter(|word| bodies.contains_key(word)).collect()
+        let heads = body.split('(').map(|head| head.rsplit(|c: char| !(c.is_alphanumeric() || "_:".contains(c))).next());
+        heads.flatten().map(str::to_string).filter(|word| bodies.contains_key(word)).collect()
     };
     bodies.iter().map(|(name, body)| (name.clone(), named(body))).collect()
+}
+
+/// These functions, and all that they lead to.
+fn reached(first: &BTreeSet<String>, calls: &BTreeMap<String, BTreeSet<String>>) -> BTreeSet<String> {
+    let mut reached = first.clone();
+    let mut open: Vec<String> = first.iter().cloned().collect();
+    while let Some(next) = open.pop() {
+        let called = calls[&next].iter().filter(|called| reached.insert((*called).clone())).cloned().collect::<Vec<_>>();
+        open.extend(called);
+    }
+    reached
 }
 
 /// What definitions, laws, functions, types, constants and wrong programs are called in a crate.
@@ -207,12 +219,7 @@ fn every_public_function_has_its_wrong_programs() {
             .flat_map(|path| wrong_programs(&read(path)).map(|(_, place)| place).collect::<Vec<_>>())
             .collect();
         for name in public_functions(&source).into_keys() {
-            let mut reached = BTreeSet::from([name.clone()]);
-            let mut open = vec![name.clone()];
-            while let Some(next) = open.pop() {
-                let called = calls[&next].iter().filter(|called| reached.insert((*called).clone())).cloned().collect::<Vec<_>>();
-                open.extend(called);
-            }
+            let reached = reached(&BTreeSet::from([name.clone()]), &calls);
             let tried = wrong.iter().filter(|place| reached.contains(*place)).count();
             if tried < 2 {
                 lacking.push(format!("{krate}::{name}: {tried}"));
@@ -310,10 +317,7 @@ fn sentences(document: &str) -> Vec<String> {
 fn every_sentence_of_document_01_has_its_row() {
     /// A row is known by how its sentence begins.
     const BEGINNING: usize = 5;
-    let rows: Vec<String> = read(&root().join("docs/PROMISES.md"))
-        .lines()
-        .filter_map(|line| Some(words(line.strip_prefix('|')?.split('|').next()?)))
-        .collect();
+    let rows: Vec<String> = first_cells(&read(&root().join("docs/PROMISES.md")));
     let sentences = sentences(&read(&root().join("docs/document-01.md")));
     assert!(sentences.len() > 150, "{} sentences were found", sentences.len());
     let missing: Vec<&String> = sentences
@@ -325,4 +329,148 @@ fn every_sentence_of_document_01_has_its_row() {
         })
         .collect();
     assert!(missing.is_empty(), "no row for {missing:#?}");
+}
+
+/// The words in the first cell of each row of a page.
+fn first_cells(page: &str) -> Vec<String> {
+    page.lines().filter_map(|line| Some(words(line.strip_prefix('|')?.split('|').next()?))).collect()
+}
+
+/// The part of a page below a heading, up to the next.
+fn section<'a>(page: &'a str, heading: &str) -> &'a str {
+    let start = page.find(&format!("\n{heading}")).unwrap_or_else(|| panic!("no heading begins with '{heading}'")) + 1;
+    let rest = &page[start..];
+    &rest[..rest.find("\n## ").unwrap_or(rest.len())]
+}
+
+/// The demands are few, so their rows hold them word by word: a sentence is one row, or several of which each goes on with the last.
+#[test]
+fn every_sentence_of_the_demands_stands_whole_in_the_rows_of_its_demand() {
+    let promises = read(&root().join("docs/PROMISES.md"));
+    let demands = read(&root().join("docs/demands.md"));
+    let paragraphs: Vec<&str> = demands.lines().filter(|line| !line.is_empty() && !line.starts_with('#')).collect();
+    assert_eq!(paragraphs.len(), 4, "three demands, and what is behind them");
+    for (at, paragraph) in paragraphs.into_iter().enumerate() {
+        let (heading, text) = match paragraph.strip_prefix(&format!("{}. ", at + 1)) {
+            Some(demand) => (format!("## Demand {}:", at + 1), demand),
+            None => ("## Behind the demands".to_string(), paragraph),
+        };
+        let rows = first_cells(section(&promises, &heading)).join(" ");
+        let found = sentences(text);
+        assert!(found.len() > 1, "{} sentences in '{text}'", found.len());
+        for sentence in found {
+            assert!(rows.contains(&words(&sentence)), "the rows below '{heading}' do not hold '{sentence}'");
+        }
+    }
+}
+
+/// A text in one line, with one sign for all quotation marks: a quotation within a quotation has the other one.
+fn in_one_line(text: &str) -> String {
+    text.split_whitespace().collect::<Vec<_>>().join(" ").replace('\'', "\"")
+}
+
+/// What the comments of a file of definitions quote. A quotation may run over several lines of a comment.
+fn quotations(definitions: &str) -> Vec<String> {
+    let mut comments = vec![String::new()];
+    for line in definitions.lines() {
+        match line.trim_start().strip_prefix("--") {
+            Some(comment) => *comments.last_mut().expect("there is a last one") += comment,
+            None => comments.push(String::new()),
+        }
+    }
+    let mut found = Vec::new();
+    for comment in comments {
+        assert!(comment.matches('"').count() % 2 == 0, "a quotation has no end: {comment}");
+        found.extend(comment.split('"').skip(1).step_by(2).map(in_one_line));
+    }
+    found
+}
+
+/// Whether a quotation stands in a page, in whole words; `..` in it is for words that are left out.
+fn stands_in(quotation: &str, page: &str) -> bool {
+    let mut rest = page;
+    quotation.split("..").map(str::trim).filter(|part| !part.is_empty()).all(|part| {
+        let cuts_a_word = |inner: Option<char>, outer: Option<char>| [inner, outer].iter().all(|c| c.is_some_and(char::is_alphanumeric));
+        let found = rest.match_indices(part).map(|(at, _)| (at, at + part.len())).find(|(start, end)| {
+            !cuts_a_word(part.chars().next(), rest[..*start].chars().last()) && !cuts_a_word(part.chars().last(), rest[*end..].chars().next())
+        });
+        rest = found.map_or("", |(_, end)| &rest[end..]);
+        found.is_some()
+    })
+}
+
+/// Definitions are held against the words of the customer: a word that is not theirs would hide a difference.
+#[test]
+fn every_quotation_above_a_definition_is_exact() {
+    let pages = ["docs/document-01.md", "docs/demands.md"].map(|page| in_one_line(&read(&root().join(page))));
+    let exact = |quotation: &str| pages.iter().any(|page| stands_in(quotation, page));
+    assert!(exact("If a 0 comes sooner, .. it also starts a sync."));
+    for wrong in ["If a 0 comes later", "If a 0 comes soon", "it also starts a sync. .. If a 0 comes sooner"] {
+        assert!(!exact(wrong), "'{wrong}' is taken for a quotation");
+    }
+    let mut found = 0;
+    let mut wrong = Vec::new();
+    for path in crates().iter().flat_map(|krate| files(&root().join("crates").join(krate).join("specs"))) {
+        for quotation in quotations(&read(&path)) {
+            found += 1;
+            if !exact(&quotation) {
+                wrong.push(format!("{}: \"{quotation}\"", path.display()));
+            }
+        }
+    }
+    assert!(found > 150, "{found} quotations were found");
+    assert!(wrong.is_empty(), "neither in 01 nor in the demands: {wrong:#?}");
+}
+
+/// What is read aloud is what stands in the crates today: each block of `docs/READING.md` names its file.
+#[test]
+fn what_is_read_aloud_is_the_text_of_its_file() {
+    let page = read(&root().join("docs/READING.md"));
+    let mut definitions = 0;
+    for block in page.split("\n```").skip(1).step_by(2) {
+        let (fence, text) = block.split_once('\n').expect("a block has a first line");
+        let (_, path) = fence.split_once(' ').unwrap_or_else(|| panic!("the block '{fence}' names no file"));
+        let file = read(&root().join(path));
+        for paragraph in text.split("\n\n") {
+            assert!(format!("\n{file}").contains(&format!("\n{paragraph}\n")), "{path} does not have:\n{paragraph}");
+        }
+        definitions += usize::from(path.contains("/specs/"));
+    }
+    assert!(definitions > 1, "{definitions} definitions are read aloud");
+}
+
+/// The file `KIT` keeps the line; the pages that name the kit say the same.
+#[test]
+fn the_pages_name_the_kit_that_is_kept() {
+    let kept = read(&root().join("KIT"));
+    let (kit, rest) = kept.split_once('\n').expect("the file is one line");
+    assert!(kit.contains(" logic ") && rest.is_empty(), "the line of a kit: '{kept}'");
+    let sum = kit.rsplit(' ').next().unwrap_or_default();
+    for page in ["README.md", "docs/TRUST.md"] {
+        let text = read(&root().join(page));
+        assert!(text.contains(&format!("`{kit}`")), "{page} does not name {kit}");
+    }
+    let verdict = read(&root().join("docs/TRUST.md"));
+    assert!(verdict.contains(&format!(" sum={sum} ")), "the verdict in docs/TRUST.md is of another logic than {sum}");
+}
+
+/// What a promise says can be read in definitions alone.
+#[test]
+fn no_promise_of_the_library_cites_a_proof() {
+    for krate in crates().iter().filter(|krate| !PROGRAMS.contains(&krate.as_str())) {
+        let source = read(&root().join("crates").join(krate).join("src/lib.rt"));
+        let cited: Vec<&str> = source.lines().filter(|line| line.starts_with("ghost use") && line.contains(".proofs.")).collect();
+        assert!(cited.is_empty(), "{krate} cites {cited:?}");
+    }
+}
+
+/// `docs/TRUST.md` says so of the stack.
+#[test]
+fn no_function_of_the_library_calls_itself() {
+    for krate in crates().iter().filter(|krate| !PROGRAMS.contains(&krate.as_str())) {
+        let calls = calls(&read(&root().join("crates").join(krate).join("src/lib.rt")));
+        for name in calls.keys() {
+            assert!(!reached(&calls[name], &calls).contains(name), "{krate}::{name} calls itself");
+        }
+    }
 }
