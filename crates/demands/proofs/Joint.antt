@@ -10,12 +10,10 @@ use mathlib.Core.List.{List}
 use lib.Dec.{ltb, lit<}
 use Rattle.laws.specs.Logic.{when, both}
 use Rattle.menus.specs.declared.Offer.{Offer}
-use Rattle.items.specs.Items.{inSet, hasItem}
-use Rattle.menus.specs.Groups.{groupOf}
-use Rattle.items.specs.Items.{modulation}
+use Rattle.items.specs.Items.{inSet}
 use Rattle.menus.specs.Offer.{offerOf, offers}
 use Rattle.items.proofs.Bits.{in-both, same-half}
-use Rattle.items.proofs.Sets.{set-has, none-in}
+use Rattle.items.proofs.Sets.{none-in}
 use Rattle.menus.proofs.Reading.{menu-read}
 use Rattle.records.specs.declared.Modes.{Modes}
 use Rattle.records.specs.declared.Record.{Record}
@@ -27,7 +25,7 @@ use Rattle.offers.proofs.Making.{bit-small}
 use Rattle.offers.proofs.Meaning.{menu-readable, menu-writable, read-back}
 use Rattle.offers.proofs.Saying.{cm-sayable, jm-sayable}
 use Rattle.demands.specs.Joint.{AcceptedRecord, cmOf, jmOf, has, hasFor, pcmFor, HoldsWhatBothHave, IsReadBack}
-use Rattle.demands.proofs.Shared.{crosswise}
+use Rattle.demands.proofs.Shared.{has-read, crosswise}
 
 -- what was meant is read
 pub cm-back : (own : Record) → AcceptedRecord own → (function : ℕ) → inUse own function .available ≡ 1 → offerOf (cmOf own function) ≡ cmOffer own function
@@ -47,10 +45,6 @@ jm-is-read-back own good heard = record {
   written = menu-writable (jmOffer own (offerOf heard));
   read = menu-read (jmOf own heard) (menu-readable (jmOffer own (offerOf heard))) ∙ ap offers (jm-back own good heard);
 }
-
--- a menu has the items that reading it gives
-pub has-read : (menu : List ℕ) (i : ℕ) → i < 13 → has menu i ≡ inSet (offerOf menu .items) i
-has-read menu i h = sym (set-has (hasItem (groupOf menu modulation)) 13 i h)
 
 -- item 0 is apart from the others
 pub beside-item-0 : (there : Bool) (items i : ℕ) → 0 < i → inSet (withItem0 there items) i ≡ inSet items i

@@ -1,13 +1,11 @@
 -- Where menus arrive as sent both ends name the same choice, never one that was not offered, and none exactly where nothing is shared. The
 -- JM is read back as it was meant, its PCM options pair again with CM and its items are in CM: so nothing stands in the way of `plain`.
 -- Assumes nothing.
-use Prim.Native.Nat.{ℕ, zero, suc, _<_, _≤_, _+_, _/_, _%_}
-use native.Mathlib.Nat.{eq-or-lt-of-le}
+use Prim.Native.Nat.{ℕ, _<_, _/_, _%_}
 use native.Mathlib.Omega.{arith}
 use mathlib.Core.Path.{_≡_, refl, sym, ap, ap₂, subst, _∙_}
 use mathlib.Core.Bool.{Bool, true, false}
 use mathlib.Core.List.{List}
-use mathlib.Core.Logic.{⊎-elim}
 use borrow.Author.Tests.{ltb-true, ltb-false, eqb-true, eqb-false, eq-eqb}
 use lib.Dec.{T, ltb, eqb, ltb→lt, eqb→eq, lit<}
 use Rattle.laws.specs.Logic.{when, both}
@@ -27,11 +25,11 @@ use Rattle.records.specs.Record.{flag, noModes, inUse}
 use Rattle.records.proofs.Good.{good-modes, none-used}
 use Rattle.offers.specs.Offering.{cmOffer, withItem1, sharedItems, jmPcm, jmOffer}
 use Rattle.menus.specs.Pcm.{paired}
-use Rattle.choices.specs.Choosing.{Chosen, none, item, pcm, refusal, lowest, lowestFrom, pcmChoice, itemChoice, chosenFrom, onRead, choiceFor, choiceOf}
+use Rattle.choices.specs.Choosing.{Chosen, none, item, pcm, refusal, lowest, pcmChoice, itemChoice, chosenFrom, onRead, choiceFor, choiceOf}
 use Rattle.offers.proofs.Making.{jm-pcm-small}
 use Rattle.demands.specs.Joint.{cmOf, jmOf, hasFor}
 use Rattle.demands.specs.OneChoice.{Call, NothingShared, callerNames, BothNameOneChoice}
-use Rattle.demands.proofs.Shared.{lowest-in}
+use Rattle.demands.proofs.Shared.{lowest-in, none-below, none-lowest}
 use Rattle.demands.proofs.Joint.{cm-back, cm-is-read-back, jm-is-read-back, beside-item-0, has-used}
 
 -- options that pair still pair in the answer, and b5 or b6 among them come from both ends
@@ -70,20 +68,6 @@ no-options : (t : Bool) → withItem1 t 0 ≡ 0
 unfolding when
 no-options true = refl
 no-options false = refl
-
--- there is a lowest item exactly where there is one
-none-below : (items i n k : ℕ) → 0 < i → lowestFrom items i n ≡ 0 → i ≤ k → k < i + n → inSet items k ≡ false
-unfolding lowestFrom
-none-below items i zero k low e h l = absurd (omega (arith, h, l))
-none-below items i (suc n) k low e h l =
-    either-way (λ (r : ℕ). r ≡ 0 → inSet items k ≡ false) (inSet items i) i (lowestFrom items (i + 1) n)
-    (λ _ z. absurd (omega (arith, low, z)))
-    (λ t z. ⊎-elim (λ same. ap (inSet items) (sym same) ∙ t) (λ more. none-below items (i + 1) n k (omega arith) z (omega (arith, more)) (omega (arith, l))) (eq-or-lt-of-le h)) e
-
-pub none-lowest : (items i n : ℕ) → ((k : ℕ) → i ≤ k → k < i + n → inSet items k ≡ false) → lowestFrom items i n ≡ 0
-unfolding lowestFrom when
-none-lowest items i zero h = refl
-none-lowest items i (suc n) h = simp (h i (omega arith) (omega arith)) (none-lowest items (i + 1) n (λ k a b. h k (omega (arith, a)) (omega (arith, b))))
 
 -- what kind of choice it is
 abbrev pub kindOf : Chosen → ℕ
