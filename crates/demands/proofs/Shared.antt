@@ -34,7 +34,7 @@ pub has-read : (menu : List ℕ) (i : ℕ) → i < 13 → has menu i ≡ inSet (
 has-read menu i h = sym (set-has (hasItem (groupOf menu modulation)) 13 i h)
 
 -- the lowest item, where there is one, is in the set and below the end of what was looked at
-pub lowest-in : (items i n : ℕ) → 0 < lowestFrom items i n → (inSet items (lowestFrom items i n) ≡ true) × (lowestFrom items i n < i + n)
+lowest-in : (items i n : ℕ) → 0 < lowestFrom items i n → (inSet items (lowestFrom items i n) ≡ true) × (lowestFrom items i n < i + n)
 unfolding lowestFrom
 lowest-in items i zero = λ h. absurd (omega (arith, h))
 lowest-in items i (suc n) =
@@ -65,7 +65,7 @@ below-lowest items i (suc n) k from =
     (λ t h. ⊎-elim (λ same. ap (inSet items) (sym same) ∙ t) (λ more. below-lowest items (i + 1) n k (omega (arith, more)) h) (eq-or-lt-of-le from))
 
 -- there is a lowest item exactly where there is one
-pub none-below : (items i n k : ℕ) → 0 < i → lowestFrom items i n ≡ 0 → i ≤ k → k < i + n → inSet items k ≡ false
+none-below : (items i n k : ℕ) → 0 < i → lowestFrom items i n ≡ 0 → i ≤ k → k < i + n → inSet items k ≡ false
 unfolding lowestFrom
 none-below items i zero k low e h l = absurd (omega (arith, h, l))
 none-below items i (suc n) k low e h l =
@@ -73,7 +73,7 @@ none-below items i (suc n) k low e h l =
     (λ _ z. absurd (omega (arith, low, z)))
     (λ t z. ⊎-elim (λ same. ap (inSet items) (sym same) ∙ t) (λ more. none-below items (i + 1) n k (omega arith) z (omega (arith, more)) (omega (arith, l))) (eq-or-lt-of-le h)) e
 
-pub none-lowest : (items i n : ℕ) → ((k : ℕ) → i ≤ k → k < i + n → inSet items k ≡ false) → lowestFrom items i n ≡ 0
+none-lowest : (items i n : ℕ) → ((k : ℕ) → i ≤ k → k < i + n → inSet items k ≡ false) → lowestFrom items i n ≡ 0
 unfolding lowestFrom when
 none-lowest items i zero h = refl
 none-lowest items i (suc n) h = simp (h i (omega arith) (omega arith)) (none-lowest items (i + 1) n (λ k a b. h k (omega (arith, a)) (omega (arith, b))))
@@ -92,7 +92,7 @@ of-bits : (a : ℕ) → a < 8 → a ≡ analogue a + 2 * digital a + 4 * v91 a
 unfolding allBelow both
 of-bits a h = eqb→eq a _ (below (λ (n : ℕ). eqb n (analogue n + 2 * digital n + 4 * v91 n)) 8 tt a h)
 
-by-bits : (a b : ℕ) → a < 8 → b < 8 → analogue a ≡ analogue b → digital a ≡ digital b → v91 a ≡ v91 b → a ≡ b
+pub by-bits : (a b : ℕ) → a < 8 → b < 8 → analogue a ≡ analogue b → digital a ≡ digital b → v91 a ≡ v91 b → a ≡ b
 by-bits a b p q x y z = of-bits a p ∙ omega (arith, x, y, z) ∙ sym (of-bits b q)
 
 -- a menu is read, or gives its refusal
@@ -101,7 +101,7 @@ unfolding menuRead
 read-case menu P read unread = either-way P _ _ _ (λ t. read (eqb-true _ _ t)) (λ t. unread (eqb-false _ _ t))
 
 -- the choice from menus that can be read
-pub chosen-from : (cm jm : List ℕ) → listFault Reading cm ≡ 0 → listFault Reading jm ≡ 0 → choiceOf cm jm ≡ chosenFrom (offerOf cm) (offerOf jm)
+chosen-from : (cm jm : List ℕ) → listFault Reading cm ≡ 0 → listFault Reading jm ≡ 0 → choiceOf cm jm ≡ chosenFrom (offerOf cm) (offerOf jm)
 chosen-from cm jm asked answered =
     ap (λ (r : Read). onRead r (λ offer. choiceFor jm offer)) (menu-read cm asked) ∙ ap (λ (r : Read). onRead r (λ offer. chosenFrom (offerOf cm) offer)) (menu-read jm answered)
 

@@ -24,9 +24,11 @@ use Rattle.steps.proofs.Rows.{step-case}
 use Rattle.steps.proofs.Ranges.{step-keeps-range, answerer-start-is-in-range}
 use Rattle.steps.proofs.Runs.{stays-over}
 use Rattle.records.specs.declared.Record.{Record}
+use Rattle.offers.specs.Offering.{cmOffer}
+use Rattle.offers.proofs.Meaning.{menu-readable}
 use Rattle.demands.specs.Joint.{cmOf, jmOf}
 use Rattle.demands.specs.OneChoice.{Call, callerNames, answererNames, BothNameOneChoice}
-use Rattle.demands.proofs.OneChoice.{kindOf, choice-case, both-ends-name-one-choice}
+use Rattle.demands.proofs.OneChoice.{choice-case, both-ends-name-one-choice}
 use Rattle.demands.specs.WholeCall.{carried, Due, inTime, InOrder, waiting, comes, lastTick, callerOrder, answererOrder, EndsWith, BothEndWith}
 
 -- an event that is answered "same" leaves the session as it is
@@ -217,6 +219,13 @@ module _ (start choice : ℕ) (okay : isChoice choice ≡ true) where
       (λ some now time. joint-pauses 0 choice (at-joint .now) now (at-joint .inside) some time)
       (eqb choice 0) refl (at-joint .rest) (at-joint .order))
 
+-- what kind of choice it is
+abbrev pub kindOf : Chosen → ℕ
+kindOf none = 0
+kindOf (item i) = 1
+kindOf (pcm options) = 2
+kindOf (choosing.refusal n) = 3
+
 -- what a choice is carried with can be carried, is not "refused with 11", and is 0 for none alone
 abbrev fits : Chosen → Bool
 fits c = both (isChoice (carried c)) (both (not (eqb (carried c) refusedWith11)) (when (eqb (carried c) 0) (eqb (kindOf c) 0) (isMode (carried c))))
@@ -272,7 +281,7 @@ module _ (calls answers : Record) (function : ℕ) (call : Call calls answers fu
   named-fits : fits named ≡ true
   named-fits =
       subst (λ (jm : List ℕ). fits (choiceOf (cmOf calls function) jm) ≡ true) (sym (asAnswered ∙ ap (jmOf answers) asSent))
-      (choice-case calls answers function call (λ (c : Chosen). fits c ≡ true) none-fits item-fits pcm-fits)
+      (choice-case answers (call .answering) (cmOf calls function) (menu-readable (cmOffer calls function)) (λ (c : Chosen). fits c ≡ true) none-fits item-fits pcm-fits)
 
   pub both-ends-end-with-the-named-choice : (callerStart te answererStart : ℕ) (callerEvents answererEvents : List Timed) → isTe te ≡ true
       → InOrder (callerFrom callerStart te) (callerOrder te (carried (callerNames calls function heardJm))) callerEvents
