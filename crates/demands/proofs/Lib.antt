@@ -4,5 +4,7 @@ pub mod Joint
 pub mod OneChoice
 pub mod Undefined
 pub mod WholeCall
+pub mod AnyEvents
+pub mod CallsHappen
 pub mod Repeated
 pub mod WrongPrograms
