@@ -10,7 +10,7 @@ use borrow.Author.Tests.{not-true, eq-eqb, ne-eqb, eqb-true, eqb-false, le-leb, 
 use lib.Dec.{T, leb, ltb, eqb}
 use Rattle.steps.proofs.Known.{is-so}
 use Rattle.laws.specs.Logic.{when, both, either}
-use Rattle.laws.specs.Tests.{every, allBelow}
+use Rattle.laws.specs.Tests.{allBelow}
 use Rattle.laws.proofs.Computed.{below}
 use Rattle.laws.proofs.Logic.{either-way, both-true}
 use Rattle.choices.specs.Choosing.{Chosen, none, item, pcm, choiceOf}
@@ -20,7 +20,7 @@ use Rattle.steps.specs.Table.{callerStill, calling, quiet, menu, closing, pause
 use Rattle.steps.specs.Session.{isItem, isChoice, isMode, isTe, caller, answerer, inRange, callerFrom, answererFrom}
 use Rattle.steps.specs.Stepping.{Answered, same, entered, ended, goOn, refusal, StepOutcome, chosenAfter, endedAs, answerOf, elapsed, owns, carries, refusedWith11, applies, findRow, moved, timed, steppedIn, stepped}
 use Rattle.steps.specs.Runs.{Timed, next, run}
-use Rattle.steps.proofs.Rows.{step-case}
+use Rattle.steps.proofs.Rows.{any-row, step-case}
 use Rattle.steps.proofs.Ranges.{step-keeps-range, answerer-start-is-in-range}
 use Rattle.steps.proofs.Runs.{stays-over}
 use Rattle.records.specs.declared.Record.{Record}
@@ -40,10 +40,6 @@ moves (goOn choice) = 1
 moves (refusal n) = 1
 
 module _ (s : Session) (e v now : ℕ) where
-  any-row : T (every (λ r. true) rows)
-  unfolding every rows both
-  any-row = tt
-
   row-moves : (state how choice : ℕ) → moves (answerOf state how choice) ≡ 1
   row-moves state how choice =
       either-way (λ (a : Answered). moves a ≡ 1) (eqb state over) _ _

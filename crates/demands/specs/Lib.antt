@@ -6,5 +6,6 @@ pub mod Undefined
 pub mod WholeCall
 pub mod AnyEvents
 pub mod CallsHappen
+pub mod Numbers
 pub mod Repeated
 pub mod WrongPrograms

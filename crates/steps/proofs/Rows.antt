@@ -83,6 +83,11 @@ module _ (s : Session) (event value passed : ℕ) where
       (λ a. at r (applied r a) (both-left (p r) (every p rs) t))
       (λ _. found-case P p rs (both-right (p r) (every p rs) t) at none)
 
+-- where nothing is to be computed of the rows
+pub any-row : T (every (λ r. true) rows)
+unfolding every rows both
+any-row = tt
+
 module _ (s : Session) (event value now : ℕ) where
   -- a row that is taken: the session is in range, the event is its end's, and it may carry its value
   pub record Taken (r : Row) : Type 0 where

@@ -88,10 +88,10 @@ module _ (s : Session) (value passed : ℕ) where
       (λ k n. tick-case P rs (both-right (rowTicks r) (every rowTicks rs) t) k n at)
 
 -- a state that is in range is one of the ten
-between-true : (low high n : ℕ) → between low high n ≡ true → (low ≤ n) × (n ≤ high)
+pub between-true : (low high n : ℕ) → between low high n ≡ true → (low ≤ n) × (n ≤ high)
 between-true low high n h = let tests = both-true _ _ h in (leb-true _ _ (tests .0), leb-true _ _ (tests .1))
 
-state-small : (end state : ℕ) → stateFits end state ≡ true → (0 < state) × (state < 11)
+pub state-small : (end state : ℕ) → stateFits end state ≡ true → (0 < state) × (state < 11)
 state-small end state h =
     ⊎-elim (λ o. let e = eqb-true state over o in (omega (arith, e), omega (arith, e)))
     (λ o. either-way (λ (v : Bool). v ≡ true → (0 < state) × (state < 11)) (eqb end caller) _ _ (λ _ b. let n = between-true _ _ state b in (omega (arith, n .0), omega (arith, n .1))) (λ _ b. let n = between-true _ _ state b in (omega (arith, n .0), omega (arith, n .1))) o)
