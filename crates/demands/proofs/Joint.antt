@@ -1,36 +1,37 @@
 -- The JM that is made holds exactly what is shared, and what is made reads back as it was meant. What is read back is the draft, and the
 -- draft's set of items and its PCM options hold a bit exactly where both ends do; item 0 is apart from the others.
 -- Assumes nothing.
-use Prim.Native.Nat.{ℕ, _<_, _*_}
+use Prim.Native.Nat.{ℕ, _<_, _+_, _*_, _/_, _%_, _^_}
 use native.Mathlib.Nat.{one-mul}
 use native.Mathlib.Omega.{arith}
 use mathlib.Core.Path.{_≡_, refl, sym, ap, ap₂, _∙_}
 use mathlib.Core.Bool.{Bool, true, false}
 use mathlib.Core.List.{List}
-use lib.Dec.{ltb, lit<}
-use Rattle.laws.specs.Logic.{when, both}
+use borrow.Author.Tests.{eq-eqb, ne-eqb}
+use lib.Dec.{ltb, eqb, lit<}
+use Rattle.laws.specs.Logic.{when, both, either}
+use Rattle.laws.proofs.Logic.{bit-of-test}
 use Rattle.menus.specs.declared.Offer.{Offer}
-use Rattle.items.specs.Items.{inSet, hasItem}
-use Rattle.menus.specs.Groups.{groupOf}
-use Rattle.items.specs.Items.{modulation}
+use Rattle.items.specs.Items.{inSet}
 use Rattle.menus.specs.Offer.{offerOf, offers}
 use Rattle.items.proofs.Bits.{in-both, same-half}
-use Rattle.items.proofs.Sets.{set-has, none-in}
+use Rattle.items.proofs.Sets.{none-in}
 use Rattle.menus.proofs.Reading.{menu-read}
 use Rattle.records.specs.declared.Modes.{Modes}
 use Rattle.records.specs.declared.Record.{Record}
 use Rattle.records.specs.Record.{flag, noModes, inUse}
 use Rattle.records.proofs.Good.{none-used}
-use Rattle.offers.specs.Offering.{bit, withItem0, cmOffer, withItem1, sharedItems, jmPcm, jmOffer}
+use Rattle.offers.specs.Offering.{bit, withItem0, accessOptions, cmAccess, cmOffer, withItem1, sharedItems, jmPcm, jmOffer}
 use Rattle.menus.specs.Pcm.{analogue, digital, v91, paired}
 use Rattle.offers.proofs.Making.{bit-small}
 use Rattle.offers.proofs.Meaning.{menu-readable, menu-writable, read-back}
 use Rattle.offers.proofs.Saying.{cm-sayable, jm-sayable}
-use Rattle.demands.specs.Joint.{AcceptedRecord, cmOf, jmOf, has, hasFor, pcmFor, HoldsWhatBothHave, IsReadBack}
-use Rattle.demands.proofs.Shared.{crosswise}
+use Rattle.demands.specs.Joint.{AcceptedRecord, cmOf, jmOf, has, hasFor, pcmFor, saysCellular, HoldsWhatBothHave, HoldsWhatBothRecordsHave, IsReadBack}
+use Rattle.demands.specs.OneChoice.{Call}
+use Rattle.demands.proofs.Shared.{has-read, crosswise}
 
 -- what was meant is read
-pub cm-back : (own : Record) → AcceptedRecord own → (function : ℕ) → inUse own function .available ≡ 1 → offerOf (cmOf own function) ≡ cmOffer own function
+cm-back : (own : Record) → AcceptedRecord own → (function : ℕ) → inUse own function .available ≡ 1 → offerOf (cmOf own function) ≡ cmOffer own function
 cm-back own good function there = read-back (cmOffer own function) (cm-sayable own (good .six) (good .good) function there)
 
 pub jm-back : (own : Record) → AcceptedRecord own → (heard : List ℕ) → offerOf (jmOf own heard) ≡ jmOffer own (offerOf heard)
@@ -48,12 +49,8 @@ jm-is-read-back own good heard = record {
   read = menu-read (jmOf own heard) (menu-readable (jmOffer own (offerOf heard))) ∙ ap offers (jm-back own good heard);
 }
 
--- a menu has the items that reading it gives
-pub has-read : (menu : List ℕ) (i : ℕ) → i < 13 → has menu i ≡ inSet (offerOf menu .items) i
-has-read menu i h = sym (set-has (hasItem (groupOf menu modulation)) 13 i h)
-
 -- item 0 is apart from the others
-pub beside-item-0 : (there : Bool) (items i : ℕ) → 0 < i → inSet (withItem0 there items) i ≡ inSet items i
+beside-item-0 : (there : Bool) (items i : ℕ) → 0 < i → inSet (withItem0 there items) i ≡ inSet items i
 beside-item-0 there items i h = same-half (withItem0 there items) items i (omega (arith, bit-small there)) h
 
 -- a record has nothing for a function that is not available
@@ -64,6 +61,21 @@ both-by false modes i h = sym (ap (λ (m : Modes). inSet (m .items) i) (h refl) 
 
 pub has-used : (own : Record) (function i : ℕ) → hasFor own function i ≡ inSet (inUse own function .items) i
 has-used own function i = both-by (flag (inUse own function .available)) (inUse own function) i (none-used (own .functions) function)
+
+-- item 0 as it is told
+item-0-told : (there : Bool) (items : ℕ) → inSet (withItem0 there items) 0 ≡ there
+unfolding inSet when
+item-0-told true items = eq-eqb ((items / 2 * 2 + 1) / 2 ^ 0 % 2) 1 (omega arith)
+item-0-told false items = ne-eqb ((items / 2 * 2 + 0) / 2 ^ 0 % 2) 1 (λ e. omega (arith, e))
+
+-- b5 of an access group that may be missing
+b5-told : (there cellular digital : Bool) → accessOptions there (bit cellular) 0 (bit digital) % 2 ≡ bit (both there cellular)
+unfolding when both
+b5-told true true true = refl
+b5-told true true false = refl
+b5-told true false true = refl
+b5-told true false false = refl
+b5-told false cellular digital = refl
 
 -- b5 and b6 go with item 1, b7 without
 crossed : (t : Bool) (theirs ours : ℕ) →
@@ -84,7 +96,7 @@ module _ (own : Record) (good : AcceptedRecord own) (heard : List ℕ) where
       has-read (jmOf own heard) i high ∙ ap (λ (o : Offer). inSet (o .items) i) (jm-back own good heard)
       ∙ beside-item-0 (ltb 0 (jmPcm modes (offerOf heard))) (sharedItems modes (offerOf heard)) i low
 
-  pcm-made : offerOf (jmOf own heard) .pcm ≡ withItem1 (has (jmOf own heard) 1) (paired (offerOf heard .pcm) (pcmFor own (offerOf heard .function)))
+  pub pcm-made : offerOf (jmOf own heard) .pcm ≡ withItem1 (has (jmOf own heard) 1) (paired (offerOf heard .pcm) (pcmFor own (offerOf heard .function)))
   pcm-made =
       ap (λ (o : Offer). o .pcm) (jm-back own good heard)
       ∙ ap (λ (t : Bool). withItem1 t (paired (offerOf heard .pcm) (modes .pcm))) (sym (item-shared 1 (lit< tt) (lit< tt)))
@@ -99,4 +111,78 @@ module _ (own : Record) (good : AcceptedRecord own) (heard : List ℕ) where
         b5 = ap analogue pcm-made ∙ bits .0;
         b6 = ap digital pcm-made ∙ bits .1;
         b7 = ap v91 pcm-made ∙ bits .2;
+      }
+
+both-swap : (a b : Bool) → both a b ≡ both b a
+unfolding both
+both-swap true true = refl
+both-swap true false = refl
+both-swap false true = refl
+both-swap false false = refl
+
+-- from both records: what the CM says is the caller's record, read back
+module _ (caller answerer : Record) (function : ℕ) (call : Call caller answerer function) where
+  abbrev cm : Offer
+  cm = cmOffer caller function
+
+  abbrev sent : List ℕ
+  sent = cmOf caller function
+
+  abbrev answered : List ℕ
+  answered = jmOf answerer sent
+
+  asked-for : offerOf sent ≡ cm
+  asked-for = cm-back caller (call .calling) function (call .available)
+
+  answered-with : offerOf answered ≡ jmOffer answerer cm
+  answered-with = jm-back answerer (call .answering) sent ∙ ap (jmOffer answerer) asked-for
+
+  cm-has : (i : ℕ) → 0 < i → i < 13 → has sent i ≡ hasFor caller function i
+  cm-has i low high =
+      has-read sent i high ∙ ap (λ (o : Offer). inSet (o .items) i) asked-for
+      ∙ beside-item-0 (ltb 0 (pcmFor caller function)) (inUse caller function .items) i low
+      ∙ sym (has-used caller function i)
+
+  from-records : (i : ℕ) → 0 < i → i < 13 → has answered i ≡ both (hasFor caller function i) (hasFor answerer function i)
+  from-records i low high =
+      jm-holds-what-both-have answerer (call .answering) sent .items i low high
+      ∙ ap₂ both (ap (λ (o : Offer). hasFor answerer (o .function) i) asked-for) (cm-has i low high)
+      ∙ both-swap (hasFor answerer function i) (hasFor caller function i)
+
+  -- the PCM options, with what the CM says put in
+  pub pcm-from-records : offerOf answered .pcm ≡ withItem1 (both (hasFor caller function 1) (hasFor answerer function 1)) (paired (pcmFor caller function) (pcmFor answerer function))
+  pcm-from-records =
+      pcm-made answerer (call .answering) sent
+      ∙ ap₂ (λ (t : Bool) (o : Offer). withItem1 t (paired (o .pcm) (pcmFor answerer (o .function)))) (from-records 1 (lit< tt) (lit< tt)) asked-for
+
+  pcm-there : ltb 0 (offerOf answered .pcm) ≡ ltb 0 (jmPcm (inUse answerer function) cm)
+  pcm-there = ap (λ (o : Offer). ltb 0 (o .pcm)) answered-with
+
+  b5-theirs : cm .«access_options» % 2 ≡ bit (saysCellular caller function)
+  b5-theirs = b5-told (cmAccess caller (pcmFor caller function)) (flag (caller .cellular)) (flag (caller .digital))
+
+  cellular-said : eqb (cm .«access_options» % 2) 1 ≡ saysCellular caller function
+  cellular-said = ap (λ (n : ℕ). eqb n 1) b5-theirs ∙ bit-of-test (saysCellular caller function) .1
+
+  access-there : offerOf answered .access ≡ either (flag (answerer .access)) (either (saysCellular caller function) (ltb 0 (offerOf answered .pcm)))
+  access-there =
+      ap (λ (o : Offer). o .access) answered-with
+      ∙ ap₂ (λ (said there : Bool). either (flag (answerer .access)) (either said there)) cellular-said (sym pcm-there)
+
+  pub jm-holds-what-both-records-have : HoldsWhatBothRecordsHave caller answerer function (jmOf answerer (cmOf caller function))
+  jm-holds-what-both-records-have =
+      let bits = crossed (both (hasFor caller function 1) (hasFor answerer function 1)) (pcmFor caller function) (pcmFor answerer function) in
+      record {
+        named = ap (λ (o : Offer). o .function) answered-with;
+        items = from-records;
+        b5 = ap analogue pcm-from-records ∙ bits .0;
+        b6 = ap digital pcm-from-records ∙ bits .1;
+        b7 = ap v91 pcm-from-records ∙ bits .2;
+        item0 = has-read answered 0 (lit< tt) ∙ ap (λ (o : Offer). inSet (o .items) 0) answered-with ∙ item-0-told (ltb 0 (jmPcm (inUse answerer function) cm)) (sharedItems (inUse answerer function) cm) ∙ sym pcm-there;
+        lapm = ap (λ (o : Offer). o .lapm) answered-with;
+        access = access-there;
+        options =
+            ap (λ (o : Offer). o .«access_options») answered-with
+            ∙ ap₂ (λ (there : Bool) (b5 : ℕ). accessOptions there b5 (bit (flag (answerer .cellular))) (bit (flag (answerer .digital))))
+            (sym (ap (λ (o : Offer). o .access) answered-with)) b5-theirs;
       }

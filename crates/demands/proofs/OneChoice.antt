@@ -1,38 +1,37 @@
 -- Where menus arrive as sent both ends name the same choice, never one that was not offered, and none exactly where nothing is shared. The
--- JM is read back as it was meant, its PCM options pair again with CM and its items are in CM: so nothing stands in the way of `plain`.
+-- JM holds what both have, so each reason to refuse a choice fails; what a choice says of the menus is then said of the records.
 -- Assumes nothing.
-use Prim.Native.Nat.{ℕ, zero, suc, _<_, _≤_, _+_, _/_, _%_}
-use native.Mathlib.Nat.{eq-or-lt-of-le}
+use Prim.Native.Nat.{ℕ, _<_, _*_, _/_, _%_, _^_}
 use native.Mathlib.Omega.{arith}
 use mathlib.Core.Path.{_≡_, refl, sym, ap, ap₂, subst, _∙_}
 use mathlib.Core.Bool.{Bool, true, false}
 use mathlib.Core.List.{List}
 use mathlib.Core.Logic.{⊎-elim}
-use borrow.Author.Tests.{ltb-true, ltb-false, eqb-true, eqb-false, eq-eqb}
+use borrow.Author.Tests.{eqb-true, eqb-false, eq-eqb}
 use lib.Dec.{T, ltb, eqb, ltb→lt, eqb→eq, lit<}
 use Rattle.laws.specs.Logic.{when, both}
 use Rattle.laws.specs.Tests.{allBelow}
-use Rattle.laws.proofs.Logic.{either-way, same-either-way, both-true, clash}
+use Rattle.laws.proofs.Logic.{either-way, both-true, clash}
 use Rattle.laws.proofs.Computed.{below, both-left, both-right}
-use Rattle.refusals.specs.declared.Refusal.the-variants.{NotOffered}
-use Rattle.refusals.specs.Refusals.{number}
+use Rattle.octets.specs.declared.Purpose.the-variants.{Reading}
+use Rattle.octets.specs.Lists.{listFault}
 use Rattle.menus.specs.declared.Offer.{Offer}
 use Rattle.items.specs.Items.{inSet}
-use Rattle.menus.specs.Offer.{Read}
-use Rattle.items.proofs.Bits.{in-both}
-use Rattle.items.proofs.Sets.{none-in}
+use Rattle.menus.specs.Offer.{offerOf}
 use Rattle.records.specs.declared.Modes.{Modes}
 use Rattle.records.specs.declared.Record.{Record}
-use Rattle.records.specs.Record.{flag, noModes, inUse}
+use Rattle.records.specs.Record.{flag, inUse}
 use Rattle.records.proofs.Good.{good-modes, none-used}
-use Rattle.offers.specs.Offering.{cmOffer, withItem1, sharedItems, jmPcm, jmOffer}
-use Rattle.menus.specs.Pcm.{paired}
-use Rattle.choices.specs.Choosing.{Chosen, none, item, pcm, refusal, lowest, lowestFrom, pcmChoice, itemChoice, chosenFrom, onRead, choiceFor, choiceOf}
-use Rattle.offers.proofs.Making.{jm-pcm-small}
-use Rattle.demands.specs.Joint.{cmOf, jmOf, hasFor}
-use Rattle.demands.specs.OneChoice.{Call, NothingShared, callerNames, BothNameOneChoice}
-use Rattle.demands.proofs.Shared.{lowest-in}
-use Rattle.demands.proofs.Joint.{cm-back, cm-is-read-back, jm-is-read-back, beside-item-0, has-used}
+use Rattle.offers.specs.Offering.{bit, withItem1, cmOffer, jmOffer}
+use Rattle.offers.proofs.Meaning.{menu-readable}
+use Rattle.menus.specs.Pcm.{v91, paired}
+use Rattle.menus.proofs.Pcm.{paired-small}
+use Rattle.choices.specs.Choosing.{Chosen, none, item, pcm, refusal, choiceOf}
+use Rattle.demands.specs.Joint.{AcceptedRecord, cmOf, jmOf, has, hasFor, pcmFor, HoldsWhatBothHave, HoldsWhatBothRecordsHave}
+use Rattle.demands.specs.OneChoice.{Call, NothingShared, callerNames, answererNames, BothNameOneChoice, NothingInBoth, AnswersAnyCm}
+use Rattle.demands.specs.Shared.{NothingOffered, SharedPcm, NotShared, cmUnread, jmUnread, itemMissing, nonePairs, Shared}
+use Rattle.demands.proofs.Shared.{crosswise, by-bits, choice-is-shared}
+use Rattle.demands.proofs.Joint.{jm-back, pcm-made, has-used, pcm-from-records, jm-holds-what-both-have, jm-holds-what-both-records-have}
 
 -- options that pair still pair in the answer, and b5 or b6 among them come from both ends
 abbrev pairs : ℕ → ℕ → Bool → Bool
@@ -66,39 +65,96 @@ unfolding paired when
 no-pcm true theirs = omega arith
 no-pcm false theirs = omega arith
 
-no-options : (t : Bool) → withItem1 t 0 ≡ 0
+no-item-1 : (t : Bool) (n : ℕ) → t ≡ false → bit t * n ≡ 0
 unfolding when
-no-options true = refl
-no-options false = refl
+no-item-1 true n e = clash e
+no-item-1 false n e = omega arith
 
--- there is a lowest item exactly where there is one
-none-below : (items i n k : ℕ) → 0 < i → lowestFrom items i n ≡ 0 → i ≤ k → k < i + n → inSet items k ≡ false
-unfolding lowestFrom
-none-below items i zero k low e h l = absurd (omega (arith, h, l))
-none-below items i (suc n) k low e h l =
-    either-way (λ (r : ℕ). r ≡ 0 → inSet items k ≡ false) (inSet items i) i (lowestFrom items (i + 1) n)
-    (λ _ z. absurd (omega (arith, low, z)))
-    (λ t z. ⊎-elim (λ same. ap (inSet items) (sym same) ∙ t) (λ more. none-below items (i + 1) n k (omega arith) z (omega (arith, more)) (omega (arith, l))) (eq-or-lt-of-le h)) e
+-- options of a menu are below 8
+options-small : (menu : List ℕ) → offerOf menu .pcm < 8
+options-small menu = either-way (λ (n : ℕ). n < 8) _ _ _ (λ _. omega arith) (λ _. lit< tt)
 
-pub none-lowest : (items i n : ℕ) → ((k : ℕ) → i ≤ k → k < i + n → inSet items k ≡ false) → lowestFrom items i n ≡ 0
-unfolding lowestFrom when
-none-lowest items i zero h = refl
-none-lowest items i (suc n) h = simp (h i (omega arith) (omega arith)) (none-lowest items (i + 1) n (λ k a b. h k (omega (arith, a)) (omega (arith, b))))
+-- whatever CM is heard, as far as it can be read
+module _ (own : Record) (good : AcceptedRecord own) (heard : List ℕ) (readable : listFault Reading heard ≡ 0) where
+  abbrev function : ℕ
+  function = offerOf heard .function
 
--- what kind of choice it is
-abbrev pub kindOf : Chosen → ℕ
-kindOf none = 0
-kindOf (item i) = 1
-kindOf (pcm options) = 2
-kindOf (refusal n) = 3
+  abbrev jm : List ℕ
+  jm = jmOf own heard
 
-both-turned : (a b : Bool) → both a b ≡ false → both b a ≡ false
-unfolding both
-both-turned true true h = h
-both-turned true false h = refl
-both-turned false true h = refl
-both-turned false false h = refl
+  holds : HoldsWhatBothHave own heard
+  holds = jm-holds-what-both-have own good heard
 
+  same-by : (t : Bool) → flag (inUse own function .available) ≡ t → (t ≡ false → ⊥) → offerOf heard .function ≡ jmOffer own (offerOf heard) .function
+  unfolding when
+  same-by true e n = simp e
+  same-by false e n = absurd (n refl)
+
+  -- where the function is available JM has the same
+  same-function : (flag (inUse own function .available) ≡ false → ⊥) → offerOf heard .function ≡ offerOf jm .function
+  same-function some = same-by (flag (inUse own function .available)) refl some ∙ sym (ap (λ (o : Offer). o .function) (jm-back own good heard))
+
+  -- an item of JM is in both, and its function is available
+  item-in-both : (i : ℕ) → 0 < i → i < 13 → has jm i ≡ true → (hasFor own function i ≡ true) × (has heard i ≡ true)
+  item-in-both i low high there = both-true _ _ (sym (holds .items i low high) ∙ there)
+
+  item-available : (i : ℕ) → hasFor own function i ≡ true → flag (inUse own function .available) ≡ false → ⊥
+  item-available i there missing = clash (sym (both-true _ _ there .0) ∙ missing)
+
+  -- so is a PCM option
+  pcm-available : 0 < offerOf jm .pcm → flag (inUse own function .available) ≡ false → ⊥
+  pcm-available counted missing =
+      let none : pcmFor own function ≡ 0 = ap (λ (m : Modes). m .pcm) (none-used (own .functions) function missing) in
+      omega (arith, counted, pcm-made own good heard ∙ ap (λ (n : ℕ). withItem1 (has jm 1) (paired (offerOf heard .pcm) n)) none ∙ no-pcm (has jm 1) (offerOf heard .pcm))
+
+  -- and it pairs again
+  jm-pairs : paired (offerOf heard .pcm) (offerOf jm .pcm) ≡ offerOf jm .pcm
+  jm-pairs =
+      subst (λ (n : ℕ). paired (offerOf heard .pcm) n ≡ n) (sym (pcm-made own good heard))
+      (pairs-again (offerOf heard .pcm) (pcmFor own function) (options-small heard) (good-modes own (good .good) function .pcm) (has jm 1))
+
+  -- so the choice is not refused
+  not-refused : (n : ℕ) → NotShared heard jm n → ⊥
+  not-refused n (cmUnread bad) = bad readable
+  not-refused n (jmUnread _ bad) = bad (menu-readable (jmOffer own (offerOf heard)))
+  not-refused n (itemMissing i _ here why) =
+      let shared = item-in-both i (here .low) (here .high) (here .answered) in
+      ⊎-elim (λ differ. differ (same-function (item-available i (shared .0)))) (λ missing. clash (sym (shared .1) ∙ missing)) why
+  not-refused n (nonePairs _ counted why) = ⊎-elim (λ differ. differ (same-function (pcm-available counted))) (λ unpaired. omega (arith, counted, jm-pairs, unpaired)) why
+
+  -- the choice is none, an item from 1 to 12, or PCM options from 1 to 7
+  of-shared : (P : Chosen → Type 0) → P none → ((i : ℕ) → 0 < i → i < 13 → P (item i)) → ((options : ℕ) → 0 < options → options < 8 → P (pcm options)) → (c : Chosen) → Shared heard jm c → P c
+  of-shared P no-mode an-item some-options none s = no-mode
+  of-shared P no-mode an-item some-options (item i) s = an-item i (s .item .low) (s .item .high)
+  of-shared P no-mode an-item some-options (pcm options) s = some-options options (s .some) (s .high)
+  of-shared P no-mode an-item some-options (refusal n) s = absurd (not-refused n s)
+
+  pub choice-case : (P : Chosen → Type 0) → P none → ((i : ℕ) → 0 < i → i < 13 → P (item i)) → ((options : ℕ) → 0 < options → options < 8 → P (pcm options)) → P (choiceOf heard (jmOf own heard))
+  choice-case P no-mode an-item some-options = of-shared P no-mode an-item some-options (choiceOf heard jm) (choice-is-shared heard jm .shared)
+
+  -- without an item only V.91 could be in JM
+  no-pcm-left : NothingInBoth own heard → offerOf jm .pcm ≡ 0
+  no-pcm-left nothing =
+      let alone : has jm 1 ≡ false = holds .items 1 (lit< tt) (lit< tt) ∙ nothing .items 1 (lit< tt) (lit< tt) in
+      by-bits (offerOf jm .pcm) 0 (options-small jm) (lit< tt)
+      (holds .b5 ∙ no-item-1 (has jm 1) _ alone) (holds .b6 ∙ no-item-1 (has jm 1) _ alone) (holds .b7 ∙ nothing .b7)
+
+  pub answers-any-cm : AnswersAnyCm own heard
+  answers-any-cm = record {
+    offered = λ n e. not-refused n (subst (Shared heard jm) e (choice-is-shared heard jm .shared));
+    clears = λ e.
+        let offered = subst (Shared heard jm) e (choice-is-shared heard jm .shared) in
+        record { items = λ i low high. sym (holds .items i low high) ∙ offered .items i low high; b7 = sym (holds .b7) ∙ ap v91 (offered .uncounted) };
+    cleared = λ nothing.
+        choice-is-shared heard jm .alone none
+        (record {
+          readable = record { asked = readable; answered = menu-readable (jmOffer own (offerOf heard)) };
+          uncounted = no-pcm-left nothing;
+          items = λ i low high. holds .items i low high ∙ nothing .items i low high;
+        });
+  }
+
+-- between two records
 module _ (caller answerer : Record) (function : ℕ) (call : Call caller answerer function) where
   abbrev asks : Modes
   asks = inUse caller function
@@ -106,145 +162,72 @@ module _ (caller answerer : Record) (function : ℕ) (call : Call caller answere
   abbrev answers : Modes
   answers = inUse answerer function
 
-  abbrev cm : Offer
-  cm = cmOffer caller function
-
-  abbrev jm : Offer
-  jm = jmOffer answerer cm
-
-  -- a function that is not available leaves nothing to share
-  module _ (missing : flag (answers .available) ≡ false) where
-    nothing : answers ≡ noModes
-    nothing = none-used (answerer .functions) function missing
-
-    no-pcm-made : jm .pcm ≡ 0
-    no-pcm-made = ap (λ (m : Modes). jmPcm m cm) nothing ∙ no-pcm (inSet (sharedItems noModes cm) 1) (cm .pcm)
-
-    no-item-made : (i : ℕ) → inSet (sharedItems answers cm) i ≡ false
-    no-item-made i = ap (λ (m : Modes). inSet (sharedItems m cm) i) nothing ∙ none-in i
-
-  same-by : (t : Bool) → flag (answers .available) ≡ t → (t ≡ false → ⊥) → eqb (cm .function) (jm .function) ≡ true
-  unfolding when
-  same-by true e n = simp e (eq-eqb function function refl)
-  same-by false e n = absurd (n refl)
-
-  -- where something is shared the functions are the same
-  same-function : (flag (answers .available) ≡ false → ⊥) → eqb (cm .function) (jm .function) ≡ true
-  same-function some = same-by (flag (answers .available)) refl some
-
-  -- the choice, where nothing stands in its way
-  abbrev plain : Chosen
-  plain = when (ltb 0 (jm .pcm)) (pcm (jm .pcm)) (when (eqb (lowest (jm .items)) 0) none (item (lowest (jm .items))))
-
-  pcm-settles : ltb 0 (jm .pcm) ≡ true → pcmChoice (eqb (cm .function) (jm .function)) (paired (cm .pcm) (jm .pcm)) ≡ pcm (jm .pcm)
-  unfolding pcmChoice when both
-  pcm-settles t =
-      let again = pairs-again (asks .pcm) (answers .pcm) (good-modes caller (call .calling .good) function .pcm) (good-modes answerer (call .answering .good) function .pcm) (inSet (sharedItems answers cm) 1) in
-      let same = same-function (λ missing. omega (arith, ltb-true 0 (jm .pcm) t, no-pcm-made missing)) in
-      simp (same, again, t)
-
-  -- an item of the JM is in both
-  module _ (i : ℕ) (low : 0 < i) (there : inSet (jm .items) i ≡ true) where
-    item-both : both (inSet (answers .items) i) (inSet (cm .items) i) ≡ true
-    item-both = sym (in-both (answers .items) (cm .items) i) ∙ sym (beside-item-0 (ltb 0 (jm .pcm)) (sharedItems answers cm) i low) ∙ there
-
-  item-settles : eqb (lowest (jm .items)) 0 ≡ false
-      → when (both (eqb (cm .function) (jm .function)) (inSet (cm .items) (lowest (jm .items)))) (item (lowest (jm .items))) (refusal (number NotOffered)) ≡ item (lowest (jm .items))
-  unfolding when both
-  item-settles t =
-      let above : 0 < lowest (jm .items) = omega (arith, eqb-false (lowest (jm .items)) 0 t) in
-      let shared = item-both (lowest (jm .items)) above (lowest-in (jm .items) 1 12 above .0) in
-      let same = same-function (λ missing. clash (sym shared ∙ sym (in-both (answers .items) (cm .items) (lowest (jm .items))) ∙ no-item-made missing (lowest (jm .items)))) in
-      simp (same, both-true (inSet (answers .items) (lowest (jm .items))) (inSet (cm .items) (lowest (jm .items))) shared .1)
-
-  settles : chosenFrom cm jm ≡ plain
-  unfolding chosenFrom itemChoice
-  settles = same-either-way (ltb 0 (jm .pcm)) _ _ _ _ pcm-settles (λ _. same-either-way (eqb (lowest (jm .items)) 0) _ _ _ _ (λ _. refl) item-settles)
-
-  -- it is no refusal, and none exactly where JM has neither PCM nor an item
-  plain-offered : (n : ℕ) → plain ≡ refusal n → ⊥
-  plain-offered n =
-      either-way (λ (c : Chosen). c ≡ refusal n → ⊥) (ltb 0 (jm .pcm)) _ _ (λ _ e. omega (arith, ap kindOf e))
-      (λ _. either-way (λ (c : Chosen). c ≡ refusal n → ⊥) (eqb (lowest (jm .items)) 0) _ _ (λ _ e. omega (arith, ap kindOf e)) (λ _ e. omega (arith, ap kindOf e)))
-
-  plain-none : plain ≡ none → (jm .pcm ≡ 0) × (lowest (jm .items) ≡ 0)
-  plain-none =
-      either-way (λ (c : Chosen). c ≡ none → (jm .pcm ≡ 0) × (lowest (jm .items) ≡ 0)) (ltb 0 (jm .pcm)) _ _ (λ _ e. absurd (omega (arith, ap kindOf e)))
-      (λ p. either-way (λ (c : Chosen). c ≡ none → (jm .pcm ≡ 0) × (lowest (jm .items) ≡ 0)) (eqb (lowest (jm .items)) 0) _ _
-      (λ t _. (omega (arith, ltb-false 0 (jm .pcm) p), eqb-true _ _ t)) (λ _ e. absurd (omega (arith, ap kindOf e))))
-
-  none-plain : jm .pcm ≡ 0 → lowest (jm .items) ≡ 0 → plain ≡ none
-  unfolding when
-  none-plain pcm-none items-none =
-      ap (λ (n : ℕ). when (ltb 0 n) (pcm n) (when (eqb (lowest (jm .items)) 0) none (item (lowest (jm .items))))) pcm-none
-      ∙ ap (λ (i : ℕ). when (eqb i 0) none (item i)) items-none
-
-  -- an item that is shared is one of the JM, and the other way round
-  item-as : (i : ℕ) → 0 < i → inSet (jm .items) i ≡ both (inSet (answers .items) i) (inSet (asks .items) i)
-  item-as i low =
-      beside-item-0 (ltb 0 (jm .pcm)) (sharedItems answers cm) i low ∙ in-both (answers .items) (cm .items) i
-      ∙ ap (both (inSet (answers .items) i)) (beside-item-0 (ltb 0 (asks .pcm)) (asks .items) i low)
-
-  shared-as : (i : ℕ) → both (hasFor caller function i) (hasFor answerer function i) ≡ both (inSet (asks .items) i) (inSet (answers .items) i)
-  shared-as i = ap₂ both (has-used caller function i) (has-used answerer function i)
-
-  -- options that pair need no test of item 1: both ends have it
-  crossed-item-1 : (paired (asks .pcm) (answers .pcm) % 4 ≡ 0 → ⊥) → inSet (sharedItems answers cm) 1 ≡ true
-  unfolding inSet both
-  crossed-item-1 some =
-      let asking = good-modes caller (call .calling .good) function in
-      let answering = good-modes answerer (call .answering .good) function in
-      let ends = both-have (asks .pcm) (answers .pcm) (asking .pcm) (answering .pcm) some in
-      let ours : answers .items / 2 % 2 ≡ 1 = answering .item-1 (λ z. omega (arith, z, ends .1)) in
-      let theirs : asks .items / 2 % 2 ≡ 1 = asking .item-1 (λ z. omega (arith, z, ends .0)) in
-      in-both (answers .items) (cm .items) 1 ∙ simp (eq-eqb _ 1 ours, beside-item-0 (ltb 0 (asks .pcm)) (asks .items) 1 (lit< tt), eq-eqb _ 1 theirs)
-
-  pcm-by : (t low : Bool) → inSet (sharedItems answers cm) 1 ≡ t → eqb (paired (asks .pcm) (answers .pcm) % 4) 0 ≡ low → withItem1 t (paired (asks .pcm) (answers .pcm)) ≡ 0 → paired (asks .pcm) (answers .pcm) ≡ 0
-  unfolding when
-  pcm-by true low item-1-is crossed-is none-made = none-made
-  pcm-by false true item-1-is crossed-is none-made = omega (arith, none-made, eqb-true (paired (asks .pcm) (answers .pcm) % 4) 0 crossed-is)
-  pcm-by false false item-1-is crossed-is none-made = clash (sym (crossed-item-1 (eqb-false _ _ crossed-is)) ∙ item-1-is)
-
-  shares-nothing : jm .pcm ≡ 0 → lowest (jm .items) ≡ 0 → NothingShared caller answerer function
-  shares-nothing pcm-none items-none = record {
-    items = λ i low high. shared-as i ∙ both-turned (inSet (answers .items) i) (inSet (asks .items) i) (sym (item-as i low) ∙ none-below (jm .items) 1 12 i (lit< tt) items-none low high);
-    pcm = pcm-by (inSet (sharedItems answers cm) 1) (eqb (paired (asks .pcm) (answers .pcm) % 4) 0) refl refl pcm-none;
-  }
-
-  nothing-made : NothingShared caller answerer function → (jm .pcm ≡ 0) × (lowest (jm .items) ≡ 0)
-  nothing-made nothing-shared = (
-    ap (withItem1 (inSet (sharedItems answers cm) 1)) (nothing-shared .pcm) ∙ no-options (inSet (sharedItems answers cm) 1),
-    none-lowest (jm .items) 1 12 (λ i low high. item-as i low ∙ both-turned (inSet (asks .items) i) (inSet (answers .items) i) (sym (shared-as i) ∙ nothing-shared .items i low high)),
-  )
-
-  -- what both ends name
   abbrev sent : List ℕ
   sent = cmOf caller function
 
-  named : choiceOf sent (jmOf answerer sent) ≡ plain
-  named =
-      let asked = cm-is-read-back caller (call .calling) function (call .available) .read in
-      let answered = jm-is-read-back answerer (call .answering) sent .read in
-      ap (λ (r : Read). onRead r (λ offer. choiceFor (jmOf answerer sent) offer)) asked
-      ∙ ap (λ (r : Read). onRead r (λ offer. chosenFrom cm offer)) answered
-      ∙ ap (λ (o : Offer). chosenFrom cm (jmOffer answerer o)) (cm-back caller (call .calling) function (call .available))
-      ∙ settles
+  abbrev answered : List ℕ
+  answered = jmOf answerer sent
 
-  -- the choice is none, an item from 1 to 12, or PCM options from 1 to 7
-  pub choice-case : (P : Chosen → Type 0) → P none → ((i : ℕ) → 0 < i → i < 13 → P (item i)) → ((options : ℕ) → 0 < options → options < 8 → P (pcm options)) → P (choiceOf (cmOf caller function) (jmOf answerer (cmOf caller function)))
-  choice-case P no-mode an-item some-options =
-      subst P (sym named)
-      (either-way P (ltb 0 (jm .pcm)) _ _ (λ t. some-options (jm .pcm) (ltb-true 0 (jm .pcm) t) (jm-pcm-small (inUse answerer (cm .function)) cm))
-      (λ _. either-way P (eqb (lowest (jm .items)) 0) _ _ (λ _. no-mode)
-      (λ t. let above : 0 < lowest (jm .items) = omega (arith, eqb-false (lowest (jm .items)) 0 t) in an-item (lowest (jm .items)) above (lowest-in (jm .items) 1 12 above .1))))
+  from-both : HoldsWhatBothRecordsHave caller answerer function answered
+  from-both = jm-holds-what-both-records-have caller answerer function call
+
+  sent-readable : listFault Reading sent ≡ 0
+  sent-readable = menu-readable (cmOffer caller function)
+
+  -- b5 and b6 that pair need no test of item 1: both ends have it
+  item-1 : (own : Record) → AcceptedRecord own → 0 < pcmFor own function % 4 → hasFor own function 1 ≡ true
+  unfolding inSet
+  item-1 own good some = has-used own function 1 ∙ eq-eqb (inUse own function .items / 2 ^ 1 % 2) 1 (good-modes own (good .good) function .item-1 (λ z. omega (arith, z, some)))
+
+  crossed-item-1 : (paired (asks .pcm) (answers .pcm) % 4 ≡ 0 → ⊥) → both (hasFor caller function 1) (hasFor answerer function 1) ≡ true
+  unfolding both
+  crossed-item-1 some =
+      let ends = both-have (asks .pcm) (answers .pcm) (good-modes caller (call .calling .good) function .pcm) (good-modes answerer (call .answering .good) function .pcm) some in
+      simp (item-1 caller (call .calling) (ends .0), item-1 answerer (call .answering) (ends .1))
+
+  exact-by : (t low : Bool) → both (hasFor caller function 1) (hasFor answerer function 1) ≡ t → eqb (paired (asks .pcm) (answers .pcm) % 4) 0 ≡ low → withItem1 t (paired (asks .pcm) (answers .pcm)) ≡ paired (asks .pcm) (answers .pcm)
+  unfolding when
+  exact-by true low item-1-is crossed-is = refl
+  exact-by false true item-1-is crossed-is = omega (arith, eqb-true (paired (asks .pcm) (answers .pcm) % 4) 0 crossed-is)
+  exact-by false false item-1-is crossed-is = clash (sym (crossed-item-1 (eqb-false _ _ crossed-is)) ∙ item-1-is)
+
+  -- the PCM options of the JM are those that pair
+  pcm-exact : offerOf answered .pcm ≡ paired (asks .pcm) (answers .pcm)
+  pcm-exact = pcm-from-records caller answerer function call ∙ exact-by (both (hasFor caller function 1) (hasFor answerer function 1)) (eqb (paired (asks .pcm) (answers .pcm) % 4) 0) refl refl
+
+  -- PCM options that are chosen are those of the JM
+  pcm-named : (options : ℕ) → SharedPcm sent answered options → options ≡ paired (asks .pcm) (answers .pcm)
+  pcm-named options s =
+      let bits = crosswise (offerOf sent .pcm) (offerOf answered .pcm) in
+      by-bits options (paired (offerOf sent .pcm) (offerOf answered .pcm)) (s .high) (paired-small (offerOf sent .pcm) (offerOf answered .pcm)) (s .b5 ∙ sym (bits .0)) (s .b6 ∙ sym (bits .1)) (s .b7 ∙ sym (bits .2))
+      ∙ jm-pairs answerer (call .answering) sent sent-readable ∙ pcm-exact
+
+  nothing-offered : NothingShared caller answerer function → NothingOffered sent answered
+  nothing-offered nothing = record {
+    readable = record { asked = sent-readable; answered = menu-readable (jmOffer answerer (offerOf sent)) };
+    uncounted = pcm-exact ∙ nothing .pcm;
+    items = λ i low high. from-both .items i low high ∙ nothing .items i low high;
+  }
 
   pub both-ends-name-one-choice : (heardCm heardJm : List ℕ) → heardCm ≡ cmOf caller function → heardJm ≡ jmOf answerer heardCm → BothNameOneChoice caller answerer function heardCm heardJm
   both-ends-name-one-choice heardCm heardJm asSent asAnswered =
-      let answer : heardJm ≡ jmOf answerer sent = asAnswered ∙ ap (jmOf answerer) asSent in
-      let chosen-plain : callerNames caller function heardJm ≡ plain = ap (choiceOf sent) answer ∙ named in
+      let named : callerNames caller function heardJm ≡ answererNames answerer sent = ap (choiceOf sent) (asAnswered ∙ ap (jmOf answerer) asSent) in
+      let says : (c : Chosen) → callerNames caller function heardJm ≡ c → Shared sent answered c = λ c e. subst (Shared sent answered) (sym named ∙ e) (choice-is-shared sent answered .shared) in
       record {
         same = ap₂ choiceOf (sym asSent) asAnswered;
-        offered = λ n e. plain-offered n (sym chosen-plain ∙ e);
-        clears = λ e. let both-none = plain-none (sym chosen-plain ∙ e) in shares-nothing (both-none .0) (both-none .1);
-        cleared = λ n. let made = nothing-made n in chosen-plain ∙ none-plain (made .0) (made .1);
+        offered = λ n e. not-refused answerer (call .answering) sent sent-readable n (says (refusal n) e);
+        clears = λ e.
+            let offered = says none e in
+            record { items = λ i low high. sym (from-both .items i low high) ∙ offered .items i low high; pcm = sym pcm-exact ∙ offered .uncounted };
+        cleared = λ nothing. named ∙ choice-is-shared sent answered .alone none (nothing-offered nothing);
+        asItem = λ i e.
+            let here = says (item i) e .item in
+            record {
+              unpaired = sym pcm-exact ∙ here .uncounted;
+              low = here .low;
+              high = here .high;
+              shared = sym (from-both .items i (here .low) (here .high)) ∙ here .answered;
+              lowest = λ lower low below. sym (from-both .items lower low (omega (arith, below, here .high))) ∙ here .lowest lower low below;
+            };
+        asPcm = λ options e. pcm-named options (says (pcm options) e);
       }

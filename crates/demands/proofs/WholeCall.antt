@@ -6,28 +6,30 @@ use native.Mathlib.Omega.{arith}
 use mathlib.Core.Path.{_≡_, refl, sym, ap, ap₂, subst, _∙_}
 use mathlib.Core.Bool.{Bool, true, false, not}
 use mathlib.Core.List.{List, [], _∷_}
-use borrow.Author.Tests.{not-true, eqb-true, eqb-false, le-leb}
+use borrow.Author.Tests.{not-true, eq-eqb, ne-eqb, eqb-true, eqb-false, le-leb, leb-true}
 use lib.Dec.{T, leb, ltb, eqb}
 use Rattle.steps.proofs.Known.{is-so}
 use Rattle.laws.specs.Logic.{when, both, either}
-use Rattle.laws.specs.Tests.{every, allBelow}
+use Rattle.laws.specs.Tests.{allBelow}
 use Rattle.laws.proofs.Computed.{below}
 use Rattle.laws.proofs.Logic.{either-way, both-true}
 use Rattle.choices.specs.Choosing.{Chosen, none, item, pcm, choiceOf}
 use Rattle.choices.specs.Choosing as choosing
 use Rattle.steps.specs.declared.Session.{Session}
-use Rattle.steps.specs.Table.{callerStill, calling, quiet, menu, closing, pause, answererStill, answering, joint, over, going, cleared, goesOn, ansam, agreedJm, cjSent, agreedCm, cj, tick, rows}
-use Rattle.steps.specs.Session.{isChoice, isMode, isTe, caller, answerer, inRange, callerFrom, answererFrom}
+use Rattle.steps.specs.Table.{callerStill, calling, quiet, menu, closing, pause, answererStill, answering, joint, over, going, cleared, goesOn, ansam, agreedJm, cjSent, agreedCm, sigC, cj, tick, rows}
+use Rattle.steps.specs.Session.{isItem, isChoice, isMode, isTe, caller, answerer, inRange, callerFrom, answererFrom}
 use Rattle.steps.specs.Stepping.{Answered, same, entered, ended, goOn, refusal, StepOutcome, chosenAfter, endedAs, answerOf, elapsed, owns, carries, refusedWith11, applies, findRow, moved, timed, steppedIn, stepped}
 use Rattle.steps.specs.Runs.{Timed, next, run}
-use Rattle.steps.proofs.Rows.{step-case}
+use Rattle.steps.proofs.Rows.{any-row, step-case}
 use Rattle.steps.proofs.Ranges.{step-keeps-range, answerer-start-is-in-range}
 use Rattle.steps.proofs.Runs.{stays-over}
 use Rattle.records.specs.declared.Record.{Record}
+use Rattle.offers.specs.Offering.{cmOffer}
+use Rattle.offers.proofs.Meaning.{menu-readable}
 use Rattle.demands.specs.Joint.{cmOf, jmOf}
-use Rattle.demands.specs.OneChoice.{Call, callerNames, answererNames, BothNameOneChoice}
-use Rattle.demands.proofs.OneChoice.{kindOf, choice-case, both-ends-name-one-choice}
-use Rattle.demands.specs.WholeCall.{carried, Due, inTime, InOrder, waiting, comes, lastTick, callerOrder, answererOrder, EndsWith, BothEndWith}
+use Rattle.demands.specs.OneChoice.{Call, NothingShared, callerNames, answererNames, BothNameOneChoice}
+use Rattle.demands.proofs.OneChoice.{choice-case, both-ends-name-one-choice}
+use Rattle.demands.specs.WholeCall.{carried, Due, inTime, InOrder, waiting, comes, lastTick, callerOrder, EndsJoint, byCj, bySigC, answererOrder, EndsWith, BothEndWith}
 
 -- an event that is answered "same" leaves the session as it is
 abbrev moves : Answered → ℕ
@@ -38,10 +40,6 @@ moves (goOn choice) = 1
 moves (refusal n) = 1
 
 module _ (s : Session) (e v now : ℕ) where
-  any-row : T (every (λ r. true) rows)
-  unfolding every rows both
-  any-row = tt
-
   row-moves : (state how choice : ℕ) → moves (answerOf state how choice) ≡ 1
   row-moves state how choice =
       either-way (λ (a : Answered). moves a ≡ 1) (eqb state over) _ _
@@ -49,7 +47,7 @@ module _ (s : Session) (e v now : ℕ) where
 
   keeps : stepped s e v now .answer ≡ same → stepped s e v now .session ≡ s
   keeps =
-      step-case s e v now (λ (o : StepOutcome). o .answer ≡ same → o .session ≡ s) (λ r. true) any-row (λ _ _. refl) (λ _. refl)
+      step-case s e v now (λ (o : StepOutcome). o .answer ≡ same → o .session ≡ s) (λ r. true) any-row (λ _ _ _ _. refl) (λ _. refl)
       (λ r _ _ h. absurd (let z : ⊥ = omega (arith, ap moves h, row-moves (r .to .0) (endedAs (r .to .1) (chosenAfter e v (s .chosen))) (chosenAfter e v (s .chosen))) in z))
 
   -- an event in time goes to the table
@@ -187,6 +185,10 @@ module _ (te choice start now : ℕ) where
   unfolding rows findRow applies when both either
   joint-pauses inside some time = goes (at answerer 0 joint choice going start) cj 0 now inside refl refl (early start now 0 time) ∙ rw (some, waited start now 0 time)
 
+  joint-to-pause : inRange (at answerer 0 joint choice going start) ≡ true → isItem choice ≡ true → After 0 start now → stepped (at answerer 0 joint choice going start) sigC choice now .session ≡ at answerer 0 pause choice going now
+  unfolding rows findRow applies when both either
+  joint-to-pause inside chosen time = goes (at answerer 0 joint choice going start) sigC choice now inside refl chosen (early start now 0 time) ∙ rw (eq-eqb choice choice refl, waited start now 0 time)
+
 -- the caller's order leads it to its end
 module _ (start te choice : ℕ) (given : isTe te ≡ true) (okay : isChoice choice ≡ true) (offered : eqb choice refusedWith11 ≡ false) where
   caller-starts : inRange (callerFrom start te) ≡ true
@@ -207,15 +209,31 @@ module _ (start te choice : ℕ) (given : isTe te ≡ true) (okay : isChoice cho
 
 -- and the answerer's order the answerer
 module _ (start choice : ℕ) (okay : isChoice choice ≡ true) where
-  pub answerer-ends : (ts : List Timed) → InOrder (answererFrom start) (answererOrder choice) ts → EndsWith choice (run (answererFrom start) ts)
-  answerer-ends ts order =
+  -- from joint, by CJ or by sigC of the chosen item
+  joint-ends : (since : ℕ) (last : Due) (ts : List Timed) → EndsJoint choice last → inRange (at answerer 0 joint choice going since) ≡ true → InOrder (at answerer 0 joint choice going since) (last ∷ lastTick choice) ts
+      → EndsWith choice (run (at answerer 0 joint choice going since) ts)
+  joint-ends since last ts byCj inside order =
+      closes-by answerer 0 joint cj choice since inside
+      (λ nothing now time. joint-clears 0 choice since now inside nothing time)
+      (λ some now time. joint-pauses 0 choice since now inside some time)
+      (eqb choice 0) refl ts order
+  joint-ends since last ts (bySigC chosen) inside order =
+      let at-pause = stage (at answerer 0 joint choice going since) (at answerer 0 pause choice going) _ _ ts inside (λ now time. joint-to-pause 0 choice since now inside chosen time) order in
+      subst (EndsWith choice) (sym (at-pause .same))
+      (goes-on answerer 0 choice (ne-eqb choice 0 (λ z. omega (arith, z, leb-true 1 choice (both-true _ _ chosen .0)))) (at-pause .now) (at-pause .rest) (at-pause .inside) (at-pause .order))
+
+  pub answerer-ends : (last : Due) (ts : List Timed) → EndsJoint choice last → InOrder (answererFrom start) (answererOrder last choice) ts → EndsWith choice (run (answererFrom start) ts)
+  answerer-ends last ts closing order =
       let at-answering = stage (answererFrom start) (at answerer 0 answering 0 going) _ _ ts (answerer-start-is-in-range start) (λ now time. to-answering 0 choice start now (answerer-start-is-in-range start) time) order in
       let at-joint = stage (at answerer 0 answering 0 going (at-answering .now)) (at answerer 0 joint choice going) _ _ (at-answering .rest) (at-answering .inside) (λ now time. to-joint 0 choice (at-answering .now) now (at-answering .inside) okay time) (at-answering .order) in
-      subst (EndsWith choice) (sym (at-answering .same ∙ at-joint .same))
-      (closes-by answerer 0 joint cj choice (at-joint .now) (at-joint .inside)
-      (λ nothing now time. joint-clears 0 choice (at-joint .now) now (at-joint .inside) nothing time)
-      (λ some now time. joint-pauses 0 choice (at-joint .now) now (at-joint .inside) some time)
-      (eqb choice 0) refl (at-joint .rest) (at-joint .order))
+      subst (EndsWith choice) (sym (at-answering .same ∙ at-joint .same)) (joint-ends (at-joint .now) last (at-joint .rest) closing (at-joint .inside) (at-joint .order))
+
+-- what kind of choice it is
+abbrev pub kindOf : Chosen → ℕ
+kindOf none = 0
+kindOf (item i) = 1
+kindOf (pcm options) = 2
+kindOf (choosing.refusal n) = 3
 
 -- what a choice is carried with can be carried, is not "refused with 11", and is 0 for none alone
 abbrev fits : Chosen → Bool
@@ -272,19 +290,32 @@ module _ (calls answers : Record) (function : ℕ) (call : Call calls answers fu
   named-fits : fits named ≡ true
   named-fits =
       subst (λ (jm : List ℕ). fits (choiceOf (cmOf calls function) jm) ≡ true) (sym (asAnswered ∙ ap (jmOf answers) asSent))
-      (choice-case calls answers function call (λ (c : Chosen). fits c ≡ true) none-fits item-fits pcm-fits)
+      (choice-case answers (call .answering) (cmOf calls function) (menu-readable (cmOffer calls function)) (λ (c : Chosen). fits c ≡ true) none-fits item-fits pcm-fits)
 
-  pub both-ends-end-with-the-named-choice : (callerStart te answererStart : ℕ) (callerEvents answererEvents : List Timed) → isTe te ≡ true
+  -- none is carried exactly where nothing is shared, and otherwise a mode
+  pub nothing-carried : carried (callerNames calls function heardJm) ≡ 0 → NothingShared calls answers function
+  nothing-carried z = settles .clears (none-by named named-fits z)
+
+  pub carries-nothing : NothingShared calls answers function → carried (callerNames calls function heardJm) ≡ 0
+  carries-nothing nothing = ap carried (settles .cleared nothing) ∙ none-carried
+
+  pub carried-alike : carried (callerNames calls function heardJm) ≡ carried (answererNames answers heardCm)
+  carried-alike = ap carried (settles .same)
+
+  pub both-ends-end-with-the-named-choice : (callerStart te answererStart : ℕ) (callerEvents answererEvents : List Timed) (last : Due) → isTe te ≡ true
       → InOrder (callerFrom callerStart te) (callerOrder te (carried (callerNames calls function heardJm))) callerEvents
-      → InOrder (answererFrom answererStart) (answererOrder (carried (answererNames answers heardCm))) answererEvents
+      → EndsJoint (carried (answererNames answers heardCm)) last
+      → InOrder (answererFrom answererStart) (answererOrder last (carried (answererNames answers heardCm))) answererEvents
       → BothEndWith (carried (callerNames calls function heardJm)) calls answers function callerStart te answererStart callerEvents answererEvents
-  both-ends-end-with-the-named-choice callerStart te answererStart callerEvents answererEvents given callerOrdered answererOrdered =
+  both-ends-end-with-the-named-choice callerStart te answererStart callerEvents answererEvents last given callerOrdered closing answererOrdered =
       let tests = both-true _ _ named-fits in
       let rest = both-true _ _ (tests .1) in
       record {
         calling = caller-ends callerStart te (carried named) given (tests .0) (not-true _ (rest .0)) callerEvents callerOrdered;
-        answering = answerer-ends answererStart (carried named) (tests .0) answererEvents (subst (λ (c : Chosen). InOrder (answererFrom answererStart) (answererOrder (carried c)) answererEvents) (sym (settles .same)) answererOrdered);
+        answering =
+            subst (λ (choice : ℕ). EndsWith choice (run (answererFrom answererStart) answererEvents)) (sym carried-alike)
+            (answerer-ends answererStart (carried (answererNames answers heardCm)) (sym (ap isChoice carried-alike) ∙ tests .0) last answererEvents closing answererOrdered);
         mode = λ some. mode-by named named-fits (λ e. some (settles .clears e));
-        clears = λ z. settles .clears (none-by named named-fits z);
-        cleared = λ nothing. ap carried (settles .cleared nothing) ∙ none-carried;
+        clears = nothing-carried;
+        cleared = carries-nothing;
       }

@@ -4,7 +4,8 @@ use mathlib.Core.Path.{_≡_}
 use mathlib.Core.Bool.{Bool, false}
 use mathlib.Core.List.{List}
 use lib.ListN.{length}
-use Rattle.laws.specs.Logic.{both}
+use lib.Dec.{ltb}
+use Rattle.laws.specs.Logic.{when, both, either}
 use Rattle.octets.specs.declared.Kind.the-variants.{Menu}
 use Rattle.octets.specs.declared.Purpose.the-variants.{Writing}
 use Rattle.octets.specs.Lists.{listFault}
@@ -15,7 +16,7 @@ use Rattle.items.specs.Items.{modulation}
 use Rattle.menus.specs.Offer.{offerOf, offers, menuRead}
 use Rattle.records.specs.declared.Record.{Record}
 use Rattle.records.specs.Record.{flag, inUse, badRecord}
-use Rattle.offers.specs.Offering.{bit, cmOffer, jmOffer}
+use Rattle.offers.specs.Offering.{bit, accessOptions, cmAccess, cmOffer, jmOffer}
 use Rattle.menus.specs.Pcm.{analogue, digital, v91}
 use Rattle.offers.specs.Making.{menuOf}
 
@@ -53,6 +54,29 @@ pub record HoldsWhatBothHave (own : Record) (heard : List ℕ) : Type 0 where
   pub b6 : digital (offerOf (jmOf own heard) .pcm) ≡ bit (has (jmOf own heard) 1) * (digital (pcmFor own (offerOf heard .function)) * analogue (offerOf heard .pcm))
   -- "b7 if both have V.91"
   pub b7 : v91 (offerOf (jmOf own heard) .pcm) ≡ v91 (pcmFor own (offerOf heard .function)) * v91 (offerOf heard .pcm)
+
+-- "their b5 is 1": the caller is cellular, and its CM has an access group to say so
+abbrev pub saysCellular : Record → ℕ → Bool
+saysCellular caller function = both (cmAccess caller (pcmFor caller function)) (flag (caller .cellular))
+
+-- the JM of an answerer for the CM of a caller, from what both records have
+pub record HoldsWhatBothRecordsHave (caller answerer : Record) (function : ℕ) (jm : List ℕ) : Type 0 where
+  -- "Function available: the same function", "Function not available: the home function"
+  pub named : offerOf jm .function ≡ when (flag (inUse answerer function .available)) function (answerer .home)
+  -- "items in both"
+  pub items : (i : ℕ) → 0 < i → i < 13 → has jm i ≡ both (hasFor caller function i) (hasFor answerer function i)
+  -- "PCM b5 if ours is analogue and theirs digital, b6 if ours is digital and theirs analogue, both only when item 1 is shared"
+  pub b5 : analogue (offerOf jm .pcm) ≡ bit (both (hasFor caller function 1) (hasFor answerer function 1)) * (analogue (pcmFor answerer function) * digital (pcmFor caller function))
+  pub b6 : digital (offerOf jm .pcm) ≡ bit (both (hasFor caller function 1) (hasFor answerer function 1)) * (digital (pcmFor answerer function) * analogue (pcmFor caller function))
+  -- "b7 if both have V.91"
+  pub b7 : v91 (offerOf jm .pcm) ≡ v91 (pcmFor answerer function) * v91 (pcmFor caller function)
+  -- "PCM is there when one of these is 1; item 0 goes with it."
+  pub item0 : has jm 0 ≡ ltb 0 (offerOf jm .pcm)
+  -- "LAPM if theirs says so and ours wants it."
+  pub lapm : offerOf jm .lapm ≡ both (flag (caller .lapm)) (flag (answerer .lapm))
+  -- "Access if wanted, if their b5 is 1, or with PCM: b5 as theirs (0 if absent), b6 cellular, b7 digital."
+  pub access : offerOf jm .access ≡ either (flag (answerer .access)) (either (saysCellular caller function) (ltb 0 (offerOf jm .pcm)))
+  pub options : offerOf jm .«access_options» ≡ accessOptions (offerOf jm .access) (bit (saysCellular caller function)) (bit (flag (answerer .cellular))) (bit (flag (answerer .digital)))
 
 -- a menu that the writer accepts, and that is read as what was meant
 pub record IsReadBack (menu : List ℕ) (meant : Offer) : Type 0 where

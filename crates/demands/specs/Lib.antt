@@ -4,6 +4,9 @@ pub mod Joint
 pub mod OneChoice
 pub mod Undefined
 pub mod WholeCall
+pub mod AnyEvents
+pub mod CallsHappen
+pub mod Numbers
 pub mod Repeated
 pub mod Heard
 pub mod WrongPrograms

@@ -1,20 +1,29 @@
 -- Demand 2: "Where both menus arrive as they were sent, both ends name the same choice, and by it they clear exactly when no mode and no PCM
 -- pairing is shared for that function."
-use Prim.Native.Nat.{ℕ, _<_}
+use Prim.Native.Nat.{ℕ, _<_, _*_}
 use mathlib.Core.Path.{_≡_}
-use mathlib.Core.Bool.{false}
+use mathlib.Core.Bool.{true, false}
 use mathlib.Core.List.{List}
 use Rattle.laws.specs.Logic.{both}
 use Rattle.records.specs.declared.Record.{Record}
 use Rattle.records.specs.Record.{inUse}
-use Rattle.menus.specs.Pcm.{paired}
-use Rattle.choices.specs.Choosing.{Chosen, none, refusal, choiceOf}
-use Rattle.demands.specs.Joint.{AcceptedRecord, cmOf, jmOf, hasFor, pcmFor}
+use Rattle.menus.specs.Offer.{offerOf}
+use Rattle.menus.specs.Pcm.{v91, paired}
+use Rattle.choices.specs.Choosing.{Chosen, none, item, pcm, refusal, choiceOf}
+use Rattle.demands.specs.Joint.{AcceptedRecord, cmOf, jmOf, has, hasFor, pcmFor}
 
 -- "no mode and no PCM pairing is shared for that function": no item from 1 to 12, and no PCM option that pairs
 pub record NothingShared (caller answerer : Record) (function : ℕ) : Type 0 where
   pub items : (i : ℕ) → 0 < i → i < 13 → both (hasFor caller function i) (hasFor answerer function i) ≡ false
   pub pcm : paired (pcmFor caller function) (pcmFor answerer function) ≡ 0
+
+-- "otherwise the lowest item from 1 to 12": of those that both have, where no PCM option pairs
+pub record LowestOfBoth (caller answerer : Record) (function i : ℕ) : Type 0 where
+  pub unpaired : paired (pcmFor caller function) (pcmFor answerer function) ≡ 0
+  pub low : 0 < i
+  pub high : i < 13
+  pub shared : both (hasFor caller function i) (hasFor answerer function i) ≡ true
+  pub lowest : (lower : ℕ) → 0 < lower → lower < i → both (hasFor caller function lower) (hasFor answerer function lower) ≡ false
 
 -- a call between two records that are accepted, for a function that the caller has
 pub record Call (caller answerer : Record) (function : ℕ) : Type 0 where
@@ -39,3 +48,20 @@ pub record BothNameOneChoice (caller answerer : Record) (function : ℕ) (heardC
   -- "they clear exactly when no mode and no PCM pairing is shared"
   pub clears : callerNames caller function heardJm ≡ none → NothingShared caller answerer function
   pub cleared : NothingShared caller answerer function → callerNames caller function heardJm ≡ none
+  -- otherwise it is what both records have
+  pub asItem : (i : ℕ) → callerNames caller function heardJm ≡ item i → LowestOfBoth caller answerer function i
+  pub asPcm : (options : ℕ) → callerNames caller function heardJm ≡ pcm options → options ≡ paired (pcmFor caller function) (pcmFor answerer function)
+
+-- nothing for a JM, from our record and a CM that another maker's modem sent. PCM b5 and b6 go in "only when item 1 is shared", so where no
+-- item is, "b7 if both have V.91" is left
+pub record NothingInBoth (answerer : Record) (heardCm : List ℕ) : Type 0 where
+  pub items : (i : ℕ) → 0 < i → i < 13 → both (hasFor answerer (offerOf heardCm .function) i) (has heardCm i) ≡ false
+  pub b7 : v91 (pcmFor answerer (offerOf heardCm .function)) * v91 (offerOf heardCm .pcm) ≡ 0
+
+-- for any CM that can be read, whoever sent it. What our JM then holds is `HoldsWhatBothHave`
+pub record AnswersAnyCm (answerer : Record) (heardCm : List ℕ) : Type 0 where
+  -- our JM is never one from which the choice is refused
+  pub offered : (n : ℕ) → answererNames answerer heardCm ≡ refusal n → ⊥
+  -- and it leaves no choice exactly where there is nothing for it
+  pub clears : answererNames answerer heardCm ≡ none → NothingInBoth answerer heardCm
+  pub cleared : NothingInBoth answerer heardCm → answererNames answerer heardCm ≡ none

@@ -9,8 +9,8 @@ use Rattle.laws.specs.Logic.{when, both}
 use Rattle.records.specs.declared.Record.{Record}
 use Rattle.choices.specs.Choosing.{Chosen}
 use Rattle.steps.specs.declared.Session.{Session}
-use Rattle.steps.specs.Table.{over, cleared, goesOn, ansam, agreedJm, cjSent, agreedCm, cj, tick}
-use Rattle.steps.specs.Session.{isMode, callerFrom, answererFrom}
+use Rattle.steps.specs.Table.{over, cleared, goesOn, ansam, agreedJm, cjSent, agreedCm, sigC, cj, tick}
+use Rattle.steps.specs.Session.{isItem, isMode, callerFrom, answererFrom}
 use Rattle.steps.specs.Stepping.{same, elapsed}
 use Rattle.steps.specs.Runs.{Timed, next, run}
 use Rattle.codes.specs.Choosing.{choiceCode}
@@ -50,9 +50,14 @@ lastTick choice = when (eqb choice 0) [] (due tick 0 75 ∷ [])
 abbrev pub callerOrder : ℕ → ℕ → List Due
 callerOrder te choice = due tick 0 1000 ∷ due ansam 0 0 ∷ due tick 0 te ∷ due agreedJm choice 0 ∷ due cjSent 0 0 ∷ lastTick choice
 
--- the answerer: "elapsed 200: answering (sends ANSam)", "agreed CM: joint (sends JM)", "CJ: pause"
-abbrev pub answererOrder : ℕ → List Due
-answererOrder choice = due tick 0 200 ∷ due agreedCm choice 0 ∷ due cj 0 0 ∷ lastTick choice
+-- what ends joint: "CJ: pause", or in its place "sigC of the chosen item: pause"
+pub data EndsJoint (choice : ℕ) : Due → Type 0 where
+  byCj : EndsJoint choice (due cj 0 0)
+  bySigC : isItem choice ≡ true → EndsJoint choice (due sigC choice 0)
+
+-- the answerer: "elapsed 200: answering (sends ANSam)", "agreed CM: joint (sends JM)", and what ends joint
+abbrev pub answererOrder : Due → ℕ → List Due
+answererOrder last choice = due tick 0 200 ∷ due agreedCm choice 0 ∷ last ∷ lastTick choice
 
 -- a session that is over with this choice, or cleared where it is none
 pub record EndsWith (choice : ℕ) (s : Session) : Type 0 where

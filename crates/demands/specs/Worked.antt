@@ -60,7 +60,7 @@ set [] = 0
 set (i ∷ rest) = 2 ^ i + set rest
 
 -- a record with modes for data alone
-abbrev forData : List ℕ → ℕ → ℕ → ℕ → Record
+abbrev pub forData : List ℕ → ℕ → ℕ → ℕ → Record
 forData items options lapm digital = record {
   functions = noModes ∷ noModes ∷ noModes ∷ noModes ∷ noModes ∷ record { available = 1; pcm = options; items = set items } ∷ [];
   home = 6;

@@ -6,3 +6,4 @@ pub mod Unique
 pub mod Runs
 pub mod Ticks
 pub mod Choices
+pub mod Answers

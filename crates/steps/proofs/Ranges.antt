@@ -111,7 +111,7 @@ row-fits s event value now r taking tested =
 -- every step keeps a session in range
 pub step-keeps-range : (s : Session) (event value now : ℕ) → inRange s ≡ true → inRange (stepped s event value now .session) ≡ true
 step-keeps-range s event value now h =
-    step-case s event value now (λ (o : StepOutcome). inRange (o .session) ≡ true) rowKeeps rows-keep (λ _. h) h (row-fits s event value now)
+    step-case s event value now (λ (o : StepOutcome). inRange (o .session) ≡ true) rowKeeps rows-keep (λ _ _ _. h) h (row-fits s event value now)
 
 -- one that is outside is refused with 10, before all else, and keeps its value
 pub outside-is-refused : (s : Session) (event value now : ℕ) → inRange s ≡ false → stepped s event value now ≡ refusedStep 10 s
@@ -119,7 +119,7 @@ unfolding when
 outside-is-refused s event value now h = simp h
 
 -- the starts
-caller-start-is-in-range : (start te : ℕ) → isTe te ≡ true → inRange (callerFrom start te) ≡ true
+pub caller-start-is-in-range : (start te : ℕ) → isTe te ≡ true → inRange (callerFrom start te) ≡ true
 unfolding when both either
 caller-start-is-in-range start te h = fits-range _ (record { end = h; state = refl; choice = refl; chosen = refl; ended = refl })
 

@@ -1,13 +1,13 @@
 -- What an event leads to, by the row that is taken: one law for every promise about steps.
 -- Assumes nothing.
-use Prim.Native.Nat.{ℕ, zero, suc, _+_, _<_}
+use Prim.Native.Nat.{ℕ, zero, suc, _+_, _<_, _≤_}
 use native.Mathlib.Numerals.{add-one}
 use native.Mathlib.Omega.{arith}
 use mathlib.Core.Path.{_≡_, refl, ap, _∙_}
 use mathlib.Core.Bool.{Bool, true, false}
 use mathlib.Core.List.{List, [], _∷_}
 use borrow.Author.Tests.{eqb-true}
-use lib.Dec.{T, ltb, leb, ltb→lt}
+use lib.Dec.{T, ltb, leb, ltb→lt, lit≤}
 use lib.ListN.{getD, drop}
 use lib.Seq.{drop-cons}
 use Rattle.laws.specs.Logic.{when, both}
@@ -83,6 +83,11 @@ module _ (s : Session) (event value passed : ℕ) where
       (λ a. at r (applied r a) (both-left (p r) (every p rs) t))
       (λ _. found-case P p rs (both-right (p r) (every p rs) t) at none)
 
+-- where nothing is to be computed of the rows
+pub any-row : T (every (λ r. true) rows)
+unfolding every rows both
+any-row = tt
+
 module _ (s : Session) (event value now : ℕ) where
   -- a row that is taken: the session is in range, the event is its end's, and it may carry its value
   pub record Taken (r : Row) : Type 0 where
@@ -91,16 +96,16 @@ module _ (s : Session) (event value now : ℕ) where
     pub fit : carries event value ≡ true
     pub row : Applies s event value (elapsed now (s .entry)) r
 
-  -- an event is refused, or changes nothing, or one row is taken, and that may use a test computed over the table
-  pub step-case : (P : StepOutcome → Type 0) (p : Row → Bool) → T (every p rows) → ((n : ℕ) → P (refusedStep n s)) → P (record { answer = same; session = s }) → ((r : Row) → Taken r → T (p r) → P (rowTaken (renewed s event value now) (r .to))) → P (stepped s event value now)
+  -- an event is refused with 7 to 10, or changes nothing, or one row is taken, and that may use a test computed over the table
+  pub step-case : (P : StepOutcome → Type 0) (p : Row → Bool) → T (every p rows) → ((n : ℕ) → 7 ≤ n → n ≤ 10 → P (refusedStep n s)) → P (record { answer = same; session = s }) → ((r : Row) → Taken r → T (p r) → P (rowTaken (renewed s event value now) (r .to))) → P (stepped s event value now)
   unfolding steppedIn timed
   step-case P p t refused none at =
       either-way P (inRange s) (steppedIn s event value now) (refusedStep 10 s)
-      (λ inside. either-way P _ (refusedStep 7 s) _ (λ _. refused 7)
+      (λ inside. either-way P _ (refusedStep 7 s) _ (λ _. refused 7 (lit≤ tt) (lit≤ tt))
       (λ _. either-way P _ (timed s event value now) (refusedStep 9 s)
       (λ tests. either-way P _ _ (refusedStep 8 s)
       (λ _. found-case s event value (elapsed now (s .entry)) (λ (found : RowFound). P (moved s event value now found)) p rows t
       (λ r row. at r (record { inside = inside; own = both-true _ _ tests .0; fit = both-true _ _ tests .1; row = row })) none)
-      (λ _. refused 8))
-      (λ _. refused 9)))
-      (λ _. refused 10)
+      (λ _. refused 8 (lit≤ tt) (lit≤ tt)))
+      (λ _. refused 9 (lit≤ tt) (lit≤ tt))))
+      (λ _. refused 10 (lit≤ tt) (lit≤ tt))

@@ -88,10 +88,10 @@ module _ (s : Session) (value passed : ℕ) where
       (λ k n. tick-case P rs (both-right (rowTicks r) (every rowTicks rs) t) k n at)
 
 -- a state that is in range is one of the ten
-between-true : (low high n : ℕ) → between low high n ≡ true → (low ≤ n) × (n ≤ high)
+pub between-true : (low high n : ℕ) → between low high n ≡ true → (low ≤ n) × (n ≤ high)
 between-true low high n h = let tests = both-true _ _ h in (leb-true _ _ (tests .0), leb-true _ _ (tests .1))
 
-state-small : (end state : ℕ) → stateFits end state ≡ true → (0 < state) × (state < 11)
+pub state-small : (end state : ℕ) → stateFits end state ≡ true → (0 < state) × (state < 11)
 state-small end state h =
     ⊎-elim (λ o. let e = eqb-true state over o in (omega (arith, e), omega (arith, e)))
     (λ o. either-way (λ (v : Bool). v ≡ true → (0 < state) × (state < 11)) (eqb end caller) _ _ (λ _ b. let n = between-true _ _ state b in (omega (arith, n .0), omega (arith, n .1))) (λ _ b. let n = between-true _ _ state b in (omega (arith, n .0), omega (arith, n .1))) o)
@@ -117,7 +117,7 @@ module _ (s : Session) (value now : ℕ) (h : inRange s ≡ true) where
 -- an event leaves the session as it was, or its time is the entry time
 pub same-or-entered-now : (s : Session) (event value now : ℕ) → (stepped s event value now .session ≡ s) ⊎ (stepped s event value now .session .entry ≡ now)
 same-or-entered-now s event value now =
-    step-case s event value now (λ (o : StepOutcome). (o .session ≡ s) ⊎ (o .session .entry ≡ now)) rowTicks rows-tick (λ _. inl refl) (inl refl) (λ r _ _. inr refl)
+    step-case s event value now (λ (o : StepOutcome). (o .session ≡ s) ⊎ (o .session .entry ≡ now)) rowTicks rows-tick (λ _ _ _. inl refl) (inl refl) (λ r _ _. inr refl)
 
 -- quiet is the caller's, whose Te is more than none
 te-by : (t : Bool) (te : ℕ) (x : Bool) → when t true false ≡ true → when t (isTe te) x ≡ true → isTe te ≡ true
@@ -141,7 +141,7 @@ tick-at-entry : (s : Session) (value now : ℕ) → s .entry ≡ now → stepped
 unfolding elapsed both
 tick-at-entry s value now e =
     let none : elapsed now (s .entry) ≡ 0 = simp e (omega arith) in
-    step-case s tick value now (λ (o : StepOutcome). o .session ≡ s) rowTicks rows-tick (λ _. refl) refl
+    step-case s tick value now (λ (o : StepOutcome). o .session ≡ s) rowTicks rows-tick (λ _ _ _. refl) refl
     (λ r taking tested.
     let f = range-fits s (taking .inside) in
     let asked = taken-if (eqb (r .event) tick) _ _ (both-left (timely r) _ tested) (eq-eqb _ _ (taking .row .on)) in

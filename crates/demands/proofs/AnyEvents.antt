@@ -1,0 +1,71 @@
+-- Whatever events come, an end goes on with what an agreed menu brought, or is cleared by none: by the laws of the steps over many events.
+-- Where every agreed menu carries the choice from the menus as sent, what was brought is that choice.
+-- Assumes nothing.
+use Prim.Native.Nat.{ℕ}
+use mathlib.Core.Path.{_≡_, refl, sym, ap, subst, _∙_}
+use mathlib.Core.Bool.{true, false}
+use mathlib.Core.List.{List, _∷_}
+use Rattle.laws.specs.Logic.{both, either}
+use Rattle.laws.proofs.Logic.{clash}
+use Rattle.records.specs.declared.Record.{Record}
+use Rattle.steps.specs.declared.Session.{Session}
+use Rattle.steps.specs.Session.{isMode, isTe, callerFrom, answererFrom}
+use Rattle.steps.specs.Runs.{Timed, run, Brought, here, later}
+use Rattle.steps.proofs.Ranges.{caller-start-is-in-range, answerer-start-is-in-range}
+use Rattle.steps.proofs.Choices.{goes-on-as-brought, went-on-as-brought, cleared-as-brought}
+use Rattle.demands.specs.Joint.{cmOf, jmOf}
+use Rattle.demands.specs.OneChoice.{Call, callerNames, answererNames}
+use Rattle.demands.specs.WholeCall.{carried}
+use Rattle.demands.specs.AnyEvents.{Starts, calling, answering, EndsAsAgreed, Carrying, more, EndsOnlyWith, NoEndGoesOnOtherwise}
+use Rattle.demands.proofs.WholeCall.{nothing-carried, carries-nothing, carried-alike}
+
+-- at a start no menu is agreed and nothing chosen
+pub any-end-ends-as-agreed : (start : Session) → Starts start → (events : List Timed) → EndsAsAgreed start events
+unfolding either
+any-end-ends-as-agreed start (calling now te given) events = record {
+  goes = λ t choice e. goes-on-as-brought (callerFrom now te) events t choice (caller-start-is-in-range now te given) refl e;
+  went = λ e. went-on-as-brought (callerFrom now te) events (caller-start-is-in-range now te given) refl e;
+  clears = λ e. cleared-as-brought (callerFrom now te) events refl refl e;
+}
+any-end-ends-as-agreed start (answering now) events = record {
+  goes = λ t choice e. goes-on-as-brought (answererFrom now) events t choice (answerer-start-is-in-range now) refl e;
+  went = λ e. went-on-as-brought (answererFrom now) events (answerer-start-is-in-range now) refl e;
+  clears = λ e. cleared-as-brought (answererFrom now) events refl refl e;
+}
+
+-- what is brought is what every agreed menu carries
+brought-is : (choice other : ℕ) (s : Session) (ts : List Timed) → Carrying choice s ts → Brought s ts other → other ≡ choice
+brought-is choice other s (t ∷ ts) (more carries rest) (here agreed _) = carries agreed
+brought-is choice other s (t ∷ ts) (more carries rest) (later _ brought) = brought-is choice other _ ts rest brought
+
+-- none is no mode
+no-mode : isMode 0 ≡ false
+unfolding both either
+no-mode = refl
+
+module _ (caller answerer : Record) (function : ℕ) (call : Call caller answerer function) (heardCm heardJm : List ℕ) (asSent : heardCm ≡ cmOf caller function) (asAnswered : heardJm ≡ jmOf answerer heardCm) where
+  abbrev named : ℕ
+  named = carried (callerNames caller function heardJm)
+
+  ends-only : (start : Session) (events : List Timed) → Starts start → Carrying named start events → EndsOnlyWith named caller answerer function start events
+  ends-only start events starts carries =
+      let ends = any-end-ends-as-agreed start starts events in
+      record {
+        goes = λ t other e. brought-is named other start events carries (ends .goes t other e .0);
+        went = λ e. brought-is named (run start events .chosen) start events carries (ends .went e .0);
+        shared = λ e nothing.
+            let is-none = brought-is named (run start events .chosen) start events carries (ends .went e .0) ∙ carries-nothing caller answerer function call heardCm heardJm asSent asAnswered nothing in
+            clash (sym (ends .went e .1) ∙ ap isMode is-none ∙ no-mode);
+        clears = λ e. nothing-carried caller answerer function call heardCm heardJm asSent asAnswered (sym (brought-is named 0 start events carries (ends .clears e)));
+      }
+
+  pub no-end-goes-on-otherwise : (callerStart te answererStart : ℕ) (callerEvents answererEvents : List Timed) → isTe te ≡ true
+      → Carrying (carried (callerNames caller function heardJm)) (callerFrom callerStart te) callerEvents
+      → Carrying (carried (answererNames answerer heardCm)) (answererFrom answererStart) answererEvents
+      → NoEndGoesOnOtherwise (carried (callerNames caller function heardJm)) caller answerer function callerStart te answererStart callerEvents answererEvents
+  no-end-goes-on-otherwise callerStart te answererStart callerEvents answererEvents given callerCarries answererCarries = record {
+    calling = ends-only (callerFrom callerStart te) callerEvents (calling callerStart te given) callerCarries;
+    answering =
+        ends-only (answererFrom answererStart) answererEvents (answering answererStart)
+        (subst (λ (choice : ℕ). Carrying choice (answererFrom answererStart) answererEvents) (sym (carried-alike caller answerer function call heardCm heardJm asSent asAnswered)) answererCarries);
+  }

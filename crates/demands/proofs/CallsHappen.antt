@@ -1,0 +1,55 @@
+-- The calls that happen are computed: records, choices, and each event as the order takes it.
+-- Assumes nothing.
+use mathlib.Core.Path.{refl}
+use Rattle.laws.specs.Logic.{when, both, either}
+use Rattle.laws.specs.Joined.{joined}
+use Rattle.octets.specs.Lists.{firstFault, untilCategory}
+use Rattle.items.specs.Items.{places, placeOf, hasItem, setOf, inSet, itemBits, modulationOctet}
+use Rattle.menus.specs.Groups.{firstGroup, frontPart, groupOf}
+use Rattle.menus.specs.Offer.{menuRead}
+use Rattle.menus.specs.Pcm.{paired}
+use Rattle.records.specs.Record.{modesAt, anyBad, badRecord}
+use Rattle.offers.specs.Making.{modulationGroup}
+use Rattle.choices.specs.Choosing.{lowestFrom, pcmChoice, itemChoice, chosenFrom}
+use Rattle.steps.specs.Table.{rows}
+use Rattle.steps.specs.Session.{inRange}
+use Rattle.steps.specs.Stepping.{elapsed, applies, findRow, timed, steppedIn}
+use Rattle.demands.specs.WholeCall.{all, waiting, comes, byCj, bySigC}
+use Rattle.demands.specs.CallsHappen.{CallsHappen}
+
+pub calls-happen : CallsHappen
+unfolding when both either joined firstFault untilCategory places placeOf hasItem setOf inSet itemBits modulationOctet firstGroup frontPart groupOf menuRead paired modesAt anyBad badRecord modulationGroup lowestFrom pcmChoice itemChoice chosenFrom rows inRange elapsed applies findRow timed steppedIn
+calls-happen = record {
+  goesOn = record {
+    call = record { calling = record { six = refl; good = refl }; answering = record { six = refl; good = refl }; available = refl };
+    named = refl;
+    te = refl;
+    calling = waiting refl (comes refl refl refl (comes refl refl refl (waiting refl (comes refl refl refl (comes refl refl refl (comes refl refl refl (waiting refl (comes refl refl refl all))))))));
+    closing = byCj;
+    answering = waiting refl (comes refl refl refl (comes refl refl refl (waiting refl (comes refl refl refl (comes refl refl refl all)))));
+  };
+  bySigC = record {
+    call = record { calling = record { six = refl; good = refl }; answering = record { six = refl; good = refl }; available = refl };
+    named = refl;
+    te = refl;
+    calling = waiting refl (comes refl refl refl (comes refl refl refl (waiting refl (comes refl refl refl (comes refl refl refl (comes refl refl refl (waiting refl (comes refl refl refl all))))))));
+    closing = bySigC refl;
+    answering = waiting refl (comes refl refl refl (comes refl refl refl (waiting refl (comes refl refl refl (comes refl refl refl all)))));
+  };
+  byPcm = record {
+    call = record { calling = record { six = refl; good = refl }; answering = record { six = refl; good = refl }; available = refl };
+    named = refl;
+    te = refl;
+    calling = waiting refl (comes refl refl refl (comes refl refl refl (waiting refl (comes refl refl refl (comes refl refl refl (comes refl refl refl (waiting refl (comes refl refl refl all))))))));
+    closing = byCj;
+    answering = waiting refl (comes refl refl refl (comes refl refl refl (waiting refl (comes refl refl refl (comes refl refl refl all)))));
+  };
+  clears = record {
+    call = record { calling = record { six = refl; good = refl }; answering = record { six = refl; good = refl }; available = refl };
+    named = refl;
+    te = refl;
+    calling = waiting refl (comes refl refl refl (comes refl refl refl (waiting refl (comes refl refl refl (comes refl refl refl (comes refl refl refl all))))));
+    closing = byCj;
+    answering = waiting refl (comes refl refl refl (comes refl refl refl (waiting refl (comes refl refl refl all))));
+  };
+}

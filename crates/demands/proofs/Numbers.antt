@@ -1,0 +1,265 @@
+-- Every number that comes is one that the header lists, by the cases of each answer and tests computed over the few numbers there are; what
+-- can come is known by its number, so no two share one. And a choice goes to its number and back.
+-- Assumes nothing.
+use Prim.Native.Nat.{ℕ, zero, suc, _<_, _+_}
+use native.Mathlib.Omega.{arith}
+use mathlib.Core.Path.{_≡_, refl, sym, ap, _∙_}
+use mathlib.Core.Bool.{Bool, true, false}
+use mathlib.Core.List.{List, [], _∷_}
+use mathlib.Core.Logic.{⊎-elim}
+use borrow.Author.Tests.{lt-ltb, le-leb, eq-eqb, ne-eqb, eqb-true, eqb-false}
+use lib.Dec.{T, ltb, eqb}
+use lib.IntN.{pos}
+use lib.ListN.{length, drop}
+use Rattle.laws.specs.Logic.{when, both, either}
+use Rattle.laws.specs.Tests.{allBelow}
+use Rattle.laws.proofs.Logic.{either-way, both-neither, clash}
+use Rattle.laws.proofs.Computed.{below}
+use Rattle.octets.specs.declared.Purpose.the-variants.{Reading}
+use Rattle.octets.specs.Octets.{bad, category}
+use Rattle.octets.specs.Lists.{octetFault, firstFault, opens, mostOctets, listFault}
+use Rattle.choices.specs.Choosing.{Chosen, none, item, pcm, refusal, choiceOf}
+use Rattle.framing.specs.Framing.{report, tellCj, refusalAct, refusalIn}
+use Rattle.listening.specs.declared.Message.{Message}
+use Rattle.listening.specs.declared.Listener.{Listener}
+use Rattle.listening.specs.Record as record-of
+use Rattle.listening.specs.Hearing.{Told, silence, ci, menu, cj, HearOutcome, ManyOutcome, agreed, reported, toldAlone, told, acted, refusedBit, heardIn, heardBit, taking, silent, listened, heardBits}
+use Rattle.listening.specs.Hearing as hearing
+use Rattle.steps.specs.declared.Session.{Session}
+use Rattle.steps.specs.Table.{over, agreedJm, agreedCm}
+use Rattle.steps.specs.Session.{between, isItem, isPcm, isMode, isChoice, inRange}
+use Rattle.steps.specs.Stepping.{Answered, same, entered, ended, goOn, refusedWith11, owns, carries, refusedStep, steppedIn, stepped}
+use Rattle.steps.specs.Stepping as stepping
+use Rattle.steps.proofs.Known.{is-so, taken-if, either-true, either-right}
+use Rattle.steps.proofs.Ticks.{between-true}
+use Rattle.steps.proofs.Answers.{possibleAnswer, answer-is-possible}
+use Rattle.codes.specs.Choosing.{choiceCode}
+use Rattle.codes.specs.Steps.{nothingCarried, stepCode}
+use Rattle.codes.specs.Hearing.{toldCode}
+use Rattle.codes.proofs.Apart.{knownChoice, choice-code-injective, step-code-injective, knownReport, told-code-injective}
+use Rattle.demands.specs.WholeCall.{carried}
+use Rattle.demands.specs.Shared.{NotShared, cmUnread, jmUnread, itemMissing, nonePairs, Shared}
+use Rattle.demands.specs.Numbers.{oneOf, choiceNumber, stepNumber, heardNumber, NumbersAreToldApart, asChosen, ChoicesAreHandedOver}
+use Rattle.demands.proofs.Shared.{choice-is-shared}
+
+-- what is computed of every number below a limit, where a test holds
+among : (f g : ℕ → Bool) (limit : ℕ) → T (allBelow (λ n. when (f n) (g n) true) limit) → (n : ℕ) → n < limit → f n ≡ true → g n ≡ true
+among f g limit computed n small holds = is-so (g n) (taken-if (f n) (g n) true (below (λ k. when (f k) (g k) true) limit computed n small) holds)
+
+in-range : (low high n : ℕ) → low < suc n → n < suc high → between low high n ≡ true
+unfolding both
+in-range low high n from to = simp (le-leb low n (omega (arith, from)), le-leb n high (omega (arith, to)))
+
+-- reading refuses with 3, 4 or 5
+abbrev Reads : ℕ → Type 0
+Reads n = oneOf (0 ∷ 3 ∷ 4 ∷ 5 ∷ 11 ∷ []) n ≡ true
+
+reads-0 : Reads 0
+unfolding either
+reads-0 = refl
+
+reads-3 : Reads 3
+unfolding either
+reads-3 = refl
+
+reads-4 : Reads 4
+unfolding either
+reads-4 = refl
+
+reads-5 : Reads 5
+unfolding either
+reads-5 = refl
+
+octets-read : (octets : List ℕ) → Reads (firstFault Reading octets)
+unfolding firstFault
+octets-read [] = reads-0
+octets-read (b ∷ bs) =
+    either-way Reads (eqb (octetFault Reading b) 0) (firstFault Reading bs) (octetFault Reading b) (λ _. octets-read bs)
+    (λ _. either-way Reads (bad b) 3 (when (category b) 0 0) (λ _. reads-3) (λ _. either-way Reads (category b) 0 0 (λ _. reads-0) (λ _. reads-0)))
+
+list-read : (octets : List ℕ) → Reads (listFault Reading octets)
+list-read octets =
+    either-way Reads (ltb mostOctets (length octets)) 4 (when (opens octets) (firstFault Reading (drop 1 octets)) 5) (λ _. reads-4)
+    (λ _. either-way Reads (opens octets) (firstFault Reading (drop 1 octets)) 5 (λ _. octets-read (drop 1 octets)) (λ _. reads-5))
+
+-- a choice: its number is listed, and known, and carried as the choice
+record TellsChoice (c : Chosen) : Type 0 where
+  number : choiceNumber (choiceCode c) ≡ true
+  known : knownChoice c ≡ true
+  handed : carried c ≡ asChosen c
+
+-- refusal 11 is the tenth below -1
+by-11 : (t : Bool) (n : ℕ) → eqb n 10 ≡ t → t ≡ eqb (suc n) 11
+by-11 true n is = sym (eq-eqb (suc n) 11 (ap suc (eqb-true n 10 is)))
+by-11 false n is = sym (ne-eqb (suc n) 11 (λ e. eqb-false n 10 is (omega (arith, e))))
+
+tells-refusal : (n : ℕ) → Reads n → (n ≡ 0 → ⊥) → TellsChoice (refusal n)
+unfolding either
+tells-refusal zero reads some = absurd (some refl)
+tells-refusal (suc n) reads some = record {
+  number = either-right (eqb 0 (suc n)) (oneOf (3 ∷ 4 ∷ 5 ∷ 11 ∷ []) (suc n)) reads (ne-eqb 0 (suc n) (λ z. omega (arith, z)));
+  known = lt-ltb 0 (suc n) (omega arith);
+  handed = ap (λ (t : Bool). when t refusedWith11 nothingCarried) (by-11 (eqb n 10) n refl);
+}
+
+tells-11 : TellsChoice (refusal 11)
+unfolding either
+tells-11 = tells-refusal 11 refl (λ z. omega (arith, z))
+
+tells-none : TellsChoice none
+unfolding when either
+tells-none = record { number = refl; known = refl; handed = refl }
+
+tells-item : (i : ℕ) → 0 < i → i < 13 → TellsChoice (item i)
+unfolding when both either allBelow
+tells-item i low high =
+    let is-item = in-range 1 12 i (omega (arith, low)) high in
+    record { number = among isItem isChoice 13 tt i high is-item; known = is-item; handed = simp (lt-ltb i 24 (omega (arith, high))) }
+
+tells-pcm : (options : ℕ) → 0 < options → options < 8 → TellsChoice (pcm options)
+unfolding when both either allBelow
+tells-pcm options low high = record {
+  number = among (λ n. ltb 0 n) (λ n. isChoice (16 + n)) 8 tt options high (lt-ltb 0 options low);
+  known = lt-ltb 0 options low;
+  handed = simp (lt-ltb (16 + options) 24 (omega (arith, high)));
+}
+
+module _ (cm jm : List ℕ) where
+  refusal-tells : (n : ℕ) → NotShared cm jm n → TellsChoice (refusal n)
+  refusal-tells n (cmUnread bad) = tells-refusal (listFault Reading cm) (list-read cm) bad
+  refusal-tells n (jmUnread _ bad) = tells-refusal (listFault Reading jm) (list-read jm) bad
+  refusal-tells n (itemMissing _ _ _ _) = tells-11
+  refusal-tells n (nonePairs _ _ _) = tells-11
+
+  shared-tells : (c : Chosen) → Shared cm jm c → TellsChoice c
+  shared-tells none s = tells-none
+  shared-tells (item i) s = tells-item i (s .item .low) (s .item .high)
+  shared-tells (pcm options) s = tells-pcm options (s .some) (s .high)
+  shared-tells (refusal n) s = refusal-tells n s
+
+  choice-tells : TellsChoice (choiceOf cm jm)
+  choice-tells = shared-tells (choiceOf cm jm) (choice-is-shared cm jm .shared)
+
+-- what an event is answered
+refusal-of-step : (n : ℕ) → oneOf (7 ∷ 8 ∷ 9 ∷ 10 ∷ []) n ≡ true → stepNumber (stepCode (stepping.refusal n)) ≡ true
+unfolding either
+refusal-of-step zero listed = clash (sym listed)
+refusal-of-step (suc n) listed = listed
+
+mode-small : (choice : ℕ) → isMode choice ≡ true → choice < 24
+mode-small choice mode =
+    ⊎-elim (λ an-item. let ends = between-true 1 12 choice an-item in omega (arith, ends .1))
+    (λ some-pcm. let ends = between-true 17 23 choice some-pcm in omega (arith, ends .1)) (either-true (isItem choice) (isPcm choice) mode)
+
+answer-number : (a : Answered) → possibleAnswer a ≡ true → stepNumber (stepCode a) ≡ true
+unfolding when both either allBelow
+answer-number same possible = refl
+answer-number (entered state) possible =
+    let ends = between-true 1 9 state possible in
+    among (between 1 9) (λ n. stepNumber (pos n)) 10 tt state (omega (arith, ends .1)) possible
+answer-number (ended how) possible =
+    let ends = between-true 1 4 how possible in
+    among (between 1 4) (λ n. stepNumber (pos (16 + n))) 5 tt how (omega (arith, ends .1)) possible
+answer-number (goOn choice) possible = among isMode (λ n. stepNumber (pos (32 + n))) 24 tt choice (mode-small choice possible) possible
+answer-number (stepping.refusal n) possible =
+    let ends = between-true 7 10 n possible in
+    refusal-of-step n (among (between 7 10) (oneOf (7 ∷ 8 ∷ 9 ∷ 10 ∷ [])) 11 tt n (omega (arith, ends .1)) possible)
+
+-- what a bit reports
+record TellsReport (t : Told) : Type 0 where
+  number : heardNumber (toldCode t) ≡ true
+  known : knownReport t ≡ true
+
+abbrev Hears : ℕ → Type 0
+Hears n = oneOf (1 ∷ 2 ∷ 3 ∷ 4 ∷ 10 ∷ 13 ∷ []) n ≡ true
+
+refusal-of-bit : (n : ℕ) → Hears n → TellsReport (hearing.refusal n)
+unfolding either
+refusal-of-bit zero listed = clash (sym listed)
+refusal-of-bit (suc n) listed = record { number = listed; known = lt-ltb 0 (suc n) (omega arith) }
+
+abbrev Tells : ℕ → Type 0
+Tells n = TellsReport (hearing.refusal n)
+
+-- those that a bit gives
+tells : (n : ℕ) → T (oneOf (1 ∷ 2 ∷ 3 ∷ 4 ∷ 10 ∷ 13 ∷ []) n) → Tells n
+tells n listed = refusal-of-bit n (is-so _ listed)
+
+act-tells : (act : ℕ) → TellsReport (hearing.refusal (refusalIn act))
+unfolding refusalIn either
+act-tells act =
+    either-way Tells (eqb act (refusalAct 1)) 1 _ (λ _. tells 1 tt)
+    (λ _. either-way Tells (eqb act (refusalAct 2)) 2 _ (λ _. tells 2 tt)
+    (λ _. either-way Tells (eqb act (refusalAct 3)) 3 _ (λ _. tells 3 tt)
+    (λ _. either-way Tells (eqb act (refusalAct 4)) 4 _ (λ _. tells 4 tt)
+    (λ _. either-way Tells (eqb act (refusalAct 10)) 10 13 (λ _. tells 10 tt) (λ _. tells 13 tt)))))
+
+menu-tells : (isAgreed : Bool) → TellsReport (menu isAgreed)
+menu-tells true = record { number = refl; known = refl }
+menu-tells false = record { number = refl; known = refl }
+
+told-tells : (act : ℕ) (m last : Message) → TellsReport (told act m last)
+unfolding told reported toldAlone
+told-tells act m last =
+    either-way TellsReport (eqb act report) _ _
+    (λ _. either-way TellsReport (eqb (m .kind) 1) ci (menu (agreed m last)) (λ _. record { number = refl; known = refl }) (λ _. menu-tells (agreed m last)))
+    (λ _. either-way TellsReport (ltb act report) silence _ (λ _. record { number = refl; known = refl })
+    (λ _. either-way TellsReport (eqb act tellCj) cj (hearing.refusal (refusalIn act)) (λ _. record { number = refl; known = refl }) (λ _. act-tells act)))
+
+bit-tells : (rec : Listener) (bit : ℕ) → TellsReport (heardIn rec bit .report)
+unfolding heardIn acted
+bit-tells rec bit = told-tells _ (rec .msg) (rec .last)
+
+heard-tells : (rec : Listener) (bit : ℕ) → TellsReport (heardBit rec bit .report)
+unfolding either
+heard-tells rec bit = either-way (λ (o : HearOutcome). TellsReport (o .report)) (record-of.inRange rec) (heardIn rec bit) (refusedBit 10 rec) (λ _. bit-tells rec bit) (λ _. tells 10 tt)
+
+listened-tells : (rec : Listener) (bits : List ℕ) (n : ℕ) → TellsReport (listened rec bits n .report)
+unfolding listened
+listened-tells rec [] n = record { number = refl; known = refl }
+listened-tells rec (bit ∷ bits) n =
+    either-way (λ (o : ManyOutcome). TellsReport (o .report)) (silent (heardIn rec bit .report)) _ _ (λ _. listened-tells (heardIn rec bit .rec) bits (n + 1)) (λ _. bit-tells rec bit)
+
+many-tells : (rec : Listener) (bits : List ℕ) → TellsReport (heardBits rec bits .report)
+unfolding either
+many-tells rec bits = either-way (λ (o : ManyOutcome). TellsReport (o .report)) (record-of.inRange rec) (listened rec bits 0) (taking (refusedBit 10 rec) 0) (λ _. listened-tells rec bits 0) (λ _. tells 10 tt)
+
+pub numbers-are-told-apart : NumbersAreToldApart
+numbers-are-told-apart = record {
+  choices = λ cm jm. choice-tells cm jm .number;
+  choicesApart = λ cm jm cm′ jm′ e. choice-code-injective _ _ (choice-tells cm jm .known) (choice-tells cm′ jm′ .known) e;
+  steps = λ s event value now. answer-number (stepped s event value now .answer) (answer-is-possible s event value now);
+  stepsApart = λ s s′ event event′ value value′ now now′ e. step-code-injective _ _ (answer-is-possible s event value now) (answer-is-possible s′ event′ value′ now′) e;
+  reports = λ rec bit. heard-tells rec bit .number;
+  reportsApart = λ rec rec′ bit bit′ e. told-code-injective _ _ (heard-tells rec bit .known) (heard-tells rec′ bit′ .known) e;
+  manyReports = λ rec bits. many-tells rec bits .number;
+  manyReportsApart = λ rec rec′ bits bits′ e. told-code-injective _ _ (many-tells rec bits .known) (many-tells rec′ bits′ .known) e;
+}
+
+-- an event that carries what it may not is refused with 9
+carried-by-none : (jm cm : Bool) (rest : Bool) → either jm cm ≡ true → when jm false (when cm false rest) ≡ false
+unfolding when either
+carried-by-none true cm rest menu-event = refl
+carried-by-none false true rest menu-event = refl
+carried-by-none false false rest menu-event = clash (sym menu-event)
+
+no-event-carries : (event : ℕ) → either (eqb event agreedJm) (eqb event agreedCm) ≡ true → carries event nothingCarried ≡ false
+unfolding both either
+no-event-carries event menu-event = carried-by-none (eqb event agreedJm) (eqb event agreedCm) _ menu-event
+
+no-cm-carries : carries agreedCm refusedWith11 ≡ false
+unfolding when both either
+no-cm-carries = refl
+
+refused-with-9 : (s : Session) (event value now : ℕ) → inRange s ≡ true → (s .state ≡ over → ⊥) → carries event value ≡ false → stepped s event value now ≡ refusedStep 9 s
+unfolding steppedIn when
+refused-with-9 s event value now inside going not-carried =
+    let neither : both (owns (s .end) event) (carries event value) ≡ false = ap (both (owns (s .end) event)) not-carried ∙ both-neither (owns (s .end) event) in
+    simp (inside, ne-eqb _ _ going, neither)
+
+pub choices-are-handed-over : ChoicesAreHandedOver
+choices-are-handed-over = record {
+  handed = λ cm jm. choice-tells cm jm .handed;
+  unread = λ s event now menu-event inside going. refused-with-9 s event nothingCarried now inside going (no-event-carries event menu-event);
+  notForCm = λ s now inside going. refused-with-9 s agreedCm refusedWith11 now inside going no-cm-carries;
+}

@@ -1,0 +1,47 @@
+-- Calls that happen: records and events that meet all that the whole call assumes, so that it speaks of something. The records are those of
+-- document 01, 'Worked values'.
+use Prim.Native.Nat.{ℕ}
+use mathlib.Core.Path.{_≡_}
+use mathlib.Core.Bool.{true}
+use mathlib.Core.List.{List, [], _∷_}
+use Rattle.records.specs.declared.Record.{Record}
+use Rattle.steps.specs.Table.{ansam, agreedJm, cjSent, agreedCm, sigC, cj, tick}
+use Rattle.steps.specs.Session.{isTe, callerFrom, answererFrom}
+use Rattle.steps.specs.Runs.{Timed}
+use Rattle.demands.specs.Worked.{forData}
+use Rattle.demands.specs.Joint.{cmOf, jmOf}
+use Rattle.demands.specs.OneChoice.{Call, callerNames}
+use Rattle.demands.specs.WholeCall.{carried, Due, InOrder, callerOrder, EndsJoint, answererOrder}
+
+-- a call for data, both ends from time 0 on and Te 500: what `both-ends-end-with-the-named-choice` assumes
+pub record Happens (choice : ℕ) (caller answerer : Record) (last : Due) (callerEvents answererEvents : List Timed) : Type 0 where
+  pub call : Call caller answerer 6
+  pub named : carried (callerNames caller 6 (jmOf answerer (cmOf caller 6))) ≡ choice
+  pub te : isTe 500 ≡ true
+  pub calling : InOrder (callerFrom 0 500) (callerOrder 500 choice) callerEvents
+  pub closing : EndsJoint choice last
+  pub answering : InOrder (answererFrom 0) (answererOrder last choice) answererEvents
+
+abbrev at : ℕ → ℕ → ℕ → Timed
+at now event value = record { event = event; value = value; now = now }
+
+-- the caller's events, with a tick that comes early and ANSam heard again
+abbrev pub callerHas : ℕ → List Timed
+callerHas choice = at 500 tick 0 ∷ at 1000 tick 0 ∷ at 1000 ansam 0 ∷ at 1100 ansam 0 ∷ at 1500 tick 0 ∷ at 2500 agreedJm choice ∷ at 2600 cjSent 0 ∷ at 2674 tick 0 ∷ at 2675 tick 0 ∷ []
+
+-- the answerer's, with CM agreed again, and what ends joint
+abbrev pub answererHas : ℕ → ℕ → ℕ → List Timed
+answererHas choice event value = at 199 tick 0 ∷ at 200 tick 0 ∷ at 2000 agreedCm choice ∷ at 2100 agreedCm choice ∷ at 2600 event value ∷ at 2675 tick 0 ∷ []
+
+abbrev lastly : ℕ → ℕ → Due
+lastly event value = record { event = event; value = value; least = 0 }
+
+pub record CallsHappen : Type 0 where
+  -- "Record A, data: items 1, 3, 4, 12, LAPM."; "answerer with items 3, 4, 8, no LAPM: .. choice item 3."
+  pub goesOn : Happens 3 (forData (1 ∷ 3 ∷ 4 ∷ 12 ∷ []) 0 1 0) (forData (3 ∷ 4 ∷ 8 ∷ []) 0 0 0) (lastly cj 0) (callerHas 3) (answererHas 3 cj 0)
+  -- the same, where "sigC of the chosen item" comes for CJ
+  pub bySigC : Happens 3 (forData (1 ∷ 3 ∷ 4 ∷ 12 ∷ []) 0 1 0) (forData (3 ∷ 4 ∷ 8 ∷ []) 0 0 0) (lastly sigC 3) (callerHas 3) (answererHas 3 sigC 3)
+  -- "caller with item 1, analogue PCM"; "Answerer with items 1, 3, digital PCM, digital line: .. choice PCM, b6."
+  pub byPcm : Happens 18 (forData (1 ∷ []) 1 0 0) (forData (1 ∷ 3 ∷ []) 2 0 1) (lastly cj 0) (callerHas 18) (answererHas 18 cj 0)
+  -- "answerer with item 5 only: .. choice none."
+  pub clears : Happens 0 (forData (1 ∷ 3 ∷ 4 ∷ 12 ∷ []) 0 1 0) (forData (5 ∷ []) 0 0 0) (lastly cj 0) (callerHas 0) (answererHas 0 cj 0)

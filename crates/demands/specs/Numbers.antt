@@ -1,0 +1,68 @@
+-- The numbers that cross to C: those that `include/tailsprig.h` lists for a choice, a step and a bit are all that come, each tells what it
+-- stands for, and a choice that a host hands to the step as its number arrives there.
+use Prim.Native.Nat.{ℕ, suc, _+_}
+use mathlib.Core.Path.{_≡_}
+use mathlib.Core.Bool.{Bool, true, false}
+use mathlib.Core.List.{List, [], _∷_}
+use lib.Dec.{eqb, leb}
+use lib.IntN.{ℤ, pos, negsuc}
+use Rattle.laws.specs.Logic.{when, either}
+use Rattle.choices.specs.Choosing.{Chosen, none, item, pcm, refusal, choiceOf}
+use Rattle.listening.specs.declared.Listener.{Listener}
+use Rattle.listening.specs.Hearing.{heardBit, heardBits}
+use Rattle.steps.specs.declared.Session.{Session}
+use Rattle.steps.specs.Table.{over, agreedJm, agreedCm}
+use Rattle.steps.specs.Session.{between, isChoice, inRange}
+use Rattle.steps.specs.Stepping.{refusedWith11, refusedStep, stepped}
+use Rattle.codes.specs.Choosing.{choiceCode}
+use Rattle.codes.specs.Steps.{nothingCarried, stepCode}
+use Rattle.codes.specs.Hearing.{toldCode}
+use Rattle.demands.specs.WholeCall.{carried}
+
+-- the number is one of these
+abbrev pub oneOf : List ℕ → ℕ → Bool
+oneOf [] n = false
+oneOf (k ∷ ks) n = either (eqb k n) (oneOf ks n)
+
+-- "0 .. nothing is shared", "1 to 12 .. an item", "17 to 23 .. TAILSPRIG_PCM + the options"; "Refusals, in this order: 4, 5 and 3 of CM, the
+-- same of JM, then .. 11"
+abbrev pub choiceNumber : ℤ → Bool
+choiceNumber (pos n) = isChoice n
+choiceNumber (negsuc n) = oneOf (3 ∷ 4 ∷ 5 ∷ 11 ∷ []) (suc n)
+
+-- "0 .. nothing changed", "1 to 9 .. the state entered", "17 to 20 .. over: TAILSPRIG_ENDED + left, late, cleared or not offered", "33 to 55
+-- .. over: TAILSPRIG_GO_ON + the choice", which is an item or PCM options; refusals "10", "7", "9", "8"
+abbrev pub stepNumber : ℤ → Bool
+stepNumber (pos n) = either (leb n 9) (either (between 17 20 n) (either (between 33 44 n) (between 49 55 n)))
+stepNumber (negsuc n) = oneOf (7 ∷ 8 ∷ 9 ∷ 10 ∷ []) (suc n)
+
+-- nothing, CI, a menu, an agreed menu, CJ; refusals "10", "1", "2", "3", "4", "13"
+abbrev pub heardNumber : ℤ → Bool
+heardNumber (pos n) = leb n 4
+heardNumber (negsuc n) = oneOf (1 ∷ 2 ∷ 3 ∷ 4 ∷ 10 ∷ 13 ∷ []) (suc n)
+
+-- no other numbers come, and no two answers share one
+pub record NumbersAreToldApart : Type 0 where
+  pub choices : (cm jm : List ℕ) → choiceNumber (choiceCode (choiceOf cm jm)) ≡ true
+  pub choicesApart : (cm jm cm′ jm′ : List ℕ) → choiceCode (choiceOf cm jm) ≡ choiceCode (choiceOf cm′ jm′) → choiceOf cm jm ≡ choiceOf cm′ jm′
+  pub steps : (s : Session) (event value now : ℕ) → stepNumber (stepCode (stepped s event value now .answer)) ≡ true
+  pub stepsApart : (s s′ : Session) (event event′ value value′ now now′ : ℕ) → stepCode (stepped s event value now .answer) ≡ stepCode (stepped s′ event′ value′ now′ .answer)
+      → stepped s event value now .answer ≡ stepped s′ event′ value′ now′ .answer
+  pub reports : (rec : Listener) (bit : ℕ) → heardNumber (toldCode (heardBit rec bit .report)) ≡ true
+  pub reportsApart : (rec rec′ : Listener) (bit bit′ : ℕ) → toldCode (heardBit rec bit .report) ≡ toldCode (heardBit rec′ bit′ .report) → heardBit rec bit .report ≡ heardBit rec′ bit′ .report
+  pub manyReports : (rec : Listener) (bits : List ℕ) → heardNumber (toldCode (heardBits rec bits .report)) ≡ true
+  pub manyReportsApart : (rec rec′ : Listener) (bits bits′ : List ℕ) → toldCode (heardBits rec bits .report) ≡ toldCode (heardBits rec′ bits′ .report) → heardBits rec bits .report ≡ heardBits rec′ bits′ .report
+
+-- "Agreed CM and agreed JM carry the choice: none, an item, or PCM options, for JM also 'refused with 11'."
+abbrev pub asChosen : Chosen → ℕ
+asChosen none = 0
+asChosen (item i) = i
+asChosen (pcm options) = 16 + options
+asChosen (refusal n) = when (eqb n 11) refusedWith11 nothingCarried
+
+-- a host that hands the number of a choice to the step hands over that choice
+pub record ChoicesAreHandedOver : Type 0 where
+  pub handed : (cm jm : List ℕ) → carried (choiceOf cm jm) ≡ asChosen (choiceOf cm jm)
+  -- that a menu cannot be read is no choice: no agreed menu carries it; nor does an agreed CM carry "refused with 11"
+  pub unread : (s : Session) (event now : ℕ) → either (eqb event agreedJm) (eqb event agreedCm) ≡ true → inRange s ≡ true → (s .state ≡ over → ⊥) → stepped s event nothingCarried now ≡ refusedStep 9 s
+  pub notForCm : (s : Session) (now : ℕ) → inRange s ≡ true → (s .state ≡ over → ⊥) → stepped s agreedCm refusedWith11 now ≡ refusedStep 9 s
