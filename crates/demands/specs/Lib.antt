@@ -1,4 +1,5 @@
 pub mod Worked
+pub mod Refusals
 pub mod Shared
 pub mod Joint
 pub mod OneChoice

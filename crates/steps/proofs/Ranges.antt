@@ -119,7 +119,7 @@ unfolding when
 outside-is-refused s event value now h = simp h
 
 -- the starts
-caller-start-is-in-range : (start te : ℕ) → isTe te ≡ true → inRange (callerFrom start te) ≡ true
+pub caller-start-is-in-range : (start te : ℕ) → isTe te ≡ true → inRange (callerFrom start te) ≡ true
 unfolding when both either
 caller-start-is-in-range start te h = fits-range _ (record { end = h; state = refl; choice = refl; chosen = refl; ended = refl })
 
