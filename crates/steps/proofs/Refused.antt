@@ -1,12 +1,12 @@
 -- An event that is refused leaves the session, by one of four numbers: what a row leads to is no refusal. And an event for which no row is there
 -- changes nothing.
 -- Assumes nothing.
-use Prim.Native.Nat.{ℕ, suc, _<_, _≤_}
+use Prim.Native.Nat.{ℕ, suc, _<_}
 use native.Mathlib.Omega.{arith}
 use mathlib.Core.Path.{_≡_, refl, sym, ap, subst, _∙_}
-use mathlib.Core.Bool.{true, false, not}
+use mathlib.Core.Bool.{true, not}
 use mathlib.Core.List.{List, [], _∷_}
-use borrow.Author.Tests.{lt-ltb, le-ltb, ne-eqb}
+use borrow.Author.Tests.{lt-ltb, ne-eqb}
 use lib.Dec.{eqb}
 use Rattle.laws.specs.Logic.{when, both}
 use Rattle.laws.specs.Tests.{every}
@@ -73,12 +73,8 @@ module _ (s : Session) (event value now : ℕ) where
       (λ applied. clash (sym (sym (ap not applied) ∙ parts .0)))
       (λ _. none-found passed rs (parts .1))
 
-  -- an event that is not refused
+  -- an event of a session that goes on, of its own end, and in time
   module _ (inside : inRange s ≡ true) (going : s .state ≡ over → ⊥) (own : both (owns (s .end) event) (carries event value) ≡ true) where
-    pub late-is-refused : 2147483648 ≤ elapsed now (s .entry) → stepped s event value now ≡ refusedStep 8 s
-    unfolding steppedIn timed when
-    late-is-refused late = simp (inside, ne-eqb (s .state) over going, own, le-ltb (elapsed now (s .entry)) 2147483648 late)
-
     in-time : elapsed now (s .entry) < 2147483648 → stepped s event value now ≡ moved s event value now (findRow s event value (elapsed now (s .entry)) rows)
     unfolding steppedIn timed when
     in-time soon = simp (inside, ne-eqb (s .state) over going, own, lt-ltb (elapsed now (s .entry)) 2147483648 soon)
@@ -90,7 +86,3 @@ module _ (s : Session) (event value now : ℕ) where
 
     pub no-row-is-same : elapsed now (s .entry) < 2147483648 → every (λ r. not (applies s event value (elapsed now (s .entry)) r)) rows ≡ true → stepped s event value now ≡ record { answer = same; session = s }
     no-row-is-same soon none = in-time soon ∙ ap (moved s event value now) (none-found (elapsed now (s .entry)) rows none)
-
-  pub not-own-is-refused : inRange s ≡ true → (s .state ≡ over → ⊥) → both (owns (s .end) event) (carries event value) ≡ false → stepped s event value now ≡ refusedStep 9 s
-  unfolding steppedIn when
-  not-own-is-refused inside going other = simp (inside, ne-eqb (s .state) over going, other)
