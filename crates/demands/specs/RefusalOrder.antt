@@ -12,7 +12,7 @@ use Rattle.octets.specs.declared.Purpose.{Purpose}
 use Rattle.octets.specs.declared.Purpose.the-variants.{Reading, Writing}
 use Rattle.octets.specs.Octets.{bad}
 use Rattle.octets.specs.Lists.{accepts, opens, mostOctets, listFault}
-use Rattle.refusals.specs.Lent.{count, roomFault}
+use Rattle.refusals.specs.Lent.{count}
 use Rattle.refusals.specs.Lent as lent
 use Rattle.sequences.specs.Line.{sequence, copies}
 use Rattle.sequences.specs.Writing.{written, writtenCj}
@@ -21,7 +21,8 @@ use Rattle.menus.specs.Groups as looking
 use Rattle.menus.specs.Offer.{offers, offerOf, menuRead}
 use Rattle.menus.specs.Offer as reading
 use Rattle.records.specs.declared.Record.{Record}
-use Rattle.offers.specs.Making.{recordFault, functionFault, madeCm, madeJm}
+use Rattle.records.specs.Record.{flag, inUse, badRecord}
+use Rattle.offers.specs.Making.{madeCm, madeJm}
 use Rattle.choices.specs.Choosing.{refusal, chosenFrom, choiceOf}
 use Rattle.steps.specs.declared.Session.{Session}
 use Rattle.steps.specs.Table.{over}
@@ -57,6 +58,18 @@ abbrev pub octetFaults : Purpose → List ℕ → List ℕ
 octetFaults p [] = []
 octetFaults p (b ∷ octets) = when (takes p b) 0 (when (bad b) 3 12) ∷ octetFaults p octets
 
+-- 6, "lent buffer too short"
+abbrev pub tooShort : List ℕ → List ℕ → ℕ
+tooShort new out = when (ltb (length out) (length new)) 6 0
+
+-- 10, "bad record"
+abbrev pub badFault : Record → ℕ
+badFault own = when (badRecord own) 10 0
+
+-- 5, "a CM asked for a function not available"
+abbrev pub unavailable : Record → ℕ → ℕ
+unavailable own function = when (flag (inUse own function .available)) 0 5
+
 -- "steps 7, 9, 8; 10 for a lent .. session comes before all of these": 10 for its range, 7 "event after over", 9 "event of the other end; item
 -- not 1 to 12; PCM options not 1 to 7", 8 "clock"
 abbrev pub stepFaults : Session → ℕ → ℕ → ℕ → List ℕ
@@ -74,14 +87,14 @@ pub record RefusalsComeInOrder : Type 0 where
   pub looked : (octets : List ℕ) (t : ℕ) → looked octets t ≡ answered (firstGroup t 0 octets) looking.refusal (listFault Reading octets)
   -- ".. then 6"
   pub written : (kind : Kind) (octets : List ℕ) (n : ℕ) (out : List ℕ) → written kind octets n out .answer
-      ≡ answered (count (length (copies n (sequence kind octets)))) lent.refusal (firstOf (listFault (Writing kind) octets ∷ roomFault (copies n (sequence kind octets)) out ∷ []))
+      ≡ answered (count (length (copies n (sequence kind octets)))) lent.refusal (firstOf (listFault (Writing kind) octets ∷ tooShort (copies n (sequence kind octets)) out ∷ []))
   -- "CJ has its own call: once, 30 bits, or refusal 6."
   pub writtenCj : (out : List ℕ) → writtenCj out .answer ≡ answered (count 30) lent.refusal (when (ltb (length out) 30) 6 0)
   -- "menus from records 10, then the heard CM's refusals or 5, then 6"
   pub cm : (own : Record) (function : ℕ) (out : List ℕ) → madeCm own function out .answer
-      ≡ answered (count (length (cmOf own function))) lent.refusal (firstOf (recordFault own ∷ functionFault own function ∷ roomFault (cmOf own function) out ∷ []))
+      ≡ answered (count (length (cmOf own function))) lent.refusal (firstOf (badFault own ∷ unavailable own function ∷ tooShort (cmOf own function) out ∷ []))
   pub jm : (own : Record) (heard out : List ℕ) → madeJm own heard out .answer
-      ≡ answered (count (length (jmOf own heard))) lent.refusal (firstOf (recordFault own ∷ listFault Reading heard ∷ roomFault (jmOf own heard) out ∷ []))
+      ≡ answered (count (length (jmOf own heard))) lent.refusal (firstOf (badFault own ∷ listFault Reading heard ∷ tooShort (jmOf own heard) out ∷ []))
   -- "the choice CM, JM, 11"
   pub choice : (cm jm : List ℕ) → choiceOf cm jm ≡ answered (chosenFrom (offerOf cm) (offerOf jm)) refusal (firstOf (listFault Reading cm ∷ listFault Reading jm ∷ []))
   pub eleven : (cm jm : List ℕ) (n : ℕ) → firstOf (listFault Reading cm ∷ listFault Reading jm ∷ []) ≡ 0 → choiceOf cm jm ≡ refusal n → n ≡ 11
