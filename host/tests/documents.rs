@@ -57,7 +57,7 @@ fn public_functions(source: &str) -> BTreeMap<String, Function> {
         };
         let name: String = rest.chars().take_while(|c| c.is_alphanumeric() || *c == '_').collect();
         let head: Vec<&str> = lines[at..].iter().copied().take_while(|line| *line != "{").collect();
-        let clause = |word: &str| head.iter().find(|line| line.trim_start().starts_with(word)).map(|line| line.trim());
+        let clauses = |word: &str| head.iter().filter(|line| line.trim_start().starts_with(word)).copied().collect::<Vec<_>>();
         let signature: String = head.iter().take_while(|line| !line.trim_start().starts_with("ensures")).copied().collect();
         let changes = signature
             .split(['(', ','])
@@ -67,8 +67,8 @@ fn public_functions(source: &str) -> BTreeMap<String, Function> {
         found.insert(
             name,
             Function {
-                requires: clause("requires").is_some(),
-                ensures: clause("ensures").unwrap_or("").to_string(),
+                requires: !clauses("requires").is_empty(),
+                ensures: clauses("ensures").join("\n"),
                 changes,
             },
         );

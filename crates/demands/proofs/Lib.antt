@@ -1,4 +1,8 @@
 pub mod Worked
+pub mod Refusals
+pub mod Acceptance
+pub mod RefusalOrder
+pub mod NotRefused
 pub mod Shared
 pub mod Joint
 pub mod OneChoice

@@ -20,4 +20,4 @@ use Rattle.demands.specs.Worked.{AllHold, done, _and_, worked}
 
 pub worked-values-hold : AllHold worked
 unfolding when both either firstFault untilCategory framed framedAll sequence copies put places placeOf hasItem setOf itemBits modulationOctet modesAt anyBad badRecord modulationGroup joined firstGroup frontPart groupOf menuRead inSet paired lowestFrom pcmChoice itemChoice chosenFrom rows inRange elapsed applies findRow timed steppedIn
-worked-values-hold = refl and refl and refl and refl and refl and refl and refl and refl and refl and refl and refl and refl and refl and refl and refl and refl and refl and refl and done
+worked-values-hold = refl and refl and refl and refl and refl and refl and refl and refl and refl and refl and refl and refl and refl and refl and refl and refl and refl and refl and refl and refl and done

@@ -1,3 +1,4 @@
 pub mod Ranges
 pub mod Words
 pub mod Places
+pub mod Refused

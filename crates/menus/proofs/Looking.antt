@@ -6,8 +6,8 @@ use native.Mathlib.Omega.{arith}
 use mathlib.Core.Path.{_≡_, ap, _∙_}
 use mathlib.Core.Bool.{true, false}
 use mathlib.Core.List.{List, [], _∷_}
-use borrow.Author.Tests.{eq-eqb, ne-eqb, eqb-true}
-use lib.Dec.{eqb}
+use borrow.Author.Tests.{lt-ltb, eq-eqb, ne-eqb, eqb-true}
+use lib.Dec.{ltb, eqb}
 use lib.ListN.{length, take, drop, getD, drop-of-length-le}
 use lib.Seq.{drop-cons}
 use Rattle.laws.specs.Logic.{when}
@@ -19,7 +19,7 @@ use Rattle.octets.specs.Octets.{category}
 use Rattle.octets.specs.Lists.{listFault, untilCategory}
 use Rattle.octets.proofs.Lists.{accepted-short}
 use Rattle.refusals.proofs.Numbers.{number-some}
-use Rattle.menus.specs.Groups.{Looked, place, nowhere, refusal, opensGroup, firstGroup, looked, frontPart, partAt}
+use Rattle.menus.specs.Groups.{Looked, place, nowhere, refusal, opensGroup, firstGroup, looked, frontPart, partAt, onward, partStart}
 
 module _ (t : ℕ) (s : List ℕ) (i : ℕ) where
   pub group-here : i < length s → opensGroup t (getD s i 0) ≡ true → firstGroup t i (drop i s) ≡ place i
@@ -85,3 +85,22 @@ module _ (s : List ℕ) (i : ℕ) where
   pub part-past : length s ≤ i → partAt s i ≡ []
   unfolding frontPart
   part-past h = simp (drop-of-length-le s h)
+
+  -- where it stands
+  pub start-here : i < length s → category (getD s i 0) ≡ true → partStart s i ≡ i
+  unfolding frontPart when
+  start-here h c =
+      let extensions = take (untilCategory (drop (suc i) s)) (drop (suc i) s) in
+      let there : partAt s i ≡ getD s i 0 ∷ extensions = simp (drop-cons s i 0 h, c) in
+      ap (λ (part : List ℕ). when (ltb 0 (length part)) i 0) there ∙ simp (lt-ltb 0 (suc (length extensions)) (omega arith))
+
+  pub start-none : partAt s i ≡ [] → partStart s i ≡ 0
+  unfolding when
+  start-none none = simp none
+
+-- a slice that begins so many octets behind another stands there
+pub stands-onward : (start : ℕ × ℕ) (from octets : ℕ) → octets ≡ from → (start .0, from + start .1) ≡ onward start octets
+stands-onward start from octets same = ap (λ (n : ℕ). (start .0, n)) (omega (arith, same))
+
+pub stands-at-front : (start : ℕ × ℕ) → (start .0, 0 + start .1) ≡ start
+stands-at-front start = ap (λ (n : ℕ). (start .0, n)) (omega arith)

@@ -2,8 +2,8 @@
 use Prim.Native.Nat.{ℕ, _+_}
 use mathlib.Core.Bool.{Bool}
 use mathlib.Core.List.{List, [], _∷_}
-use lib.Dec.{eqb}
-use lib.ListN.{take, drop, getD}
+use lib.Dec.{ltb, eqb}
+use lib.ListN.{length, take, drop, getD}
 use Rattle.laws.specs.Logic.{when, both}
 use Rattle.octets.specs.declared.Purpose.the-variants.{Reading}
 use Rattle.refusals.specs.Refusals.{number}
@@ -45,6 +45,14 @@ frontPart (b ∷ bs) = when (category b) (b ∷ take (untilCategory bs) bs) []
 -- "that stretch of the lent message itself ..; a place that holds no category octet gives the empty part"
 abbrev pub partAt : List ℕ → ℕ → List ℕ
 partAt octets i = frontPart (drop i octets)
+
+-- where a part stands in memory: in the block of the lent message, so many octets behind its first
+abbrev pub onward : ℕ × ℕ → ℕ → ℕ × ℕ
+onward start octets = (start .0, start .1 + octets)
+
+-- "that stretch of the lent message itself": a part stands at its place, and the empty part at the message's front
+abbrev pub partStart : List ℕ → ℕ → ℕ
+partStart octets i = when (ltb 0 (length (partAt octets i))) i 0
 
 -- "The first group of a tag counts"; a missing group is the empty part
 abbrev pub partOf : List ℕ → Looked → List ℕ

@@ -4,9 +4,10 @@ use refusals::Refusal;
 use refusals::Verdict;
 ghost use mathlib.Core.Path.{_≡_};
 ghost use Prim.Native.Nat.{_+_, _≤_};
+ghost use denote.Ref.{ptr};
 ghost use lib.ListN.{length, drop};
 ghost use Rattle.octets.specs.Lists.{untilCategory};
-ghost use Rattle.menus.specs.Groups.{saysFound, opensGroup, firstGroup, looked, partAt, groupOf, optionsIn};
+ghost use Rattle.menus.specs.Groups.{saysFound, opensGroup, firstGroup, looked, partAt, onward, partStart, groupOf, optionsIn};
 ghost use Rattle.menus.specs.Offer.{pcmCounted, offerOf, saysRead, menuRead};
 ghost use Rattle.menus.specs.Pcm.{paired};
 ghost use Rattle.menus.specs.Inner.{saysSpot};
@@ -111,6 +112,7 @@ fn group_end(octets: &[u8], from: usize) -> usize
 // The part of a place: the category octet there and its extension octets, of the lent message itself; elsewhere the empty part.
 pub fn part(octets: &[u8], place: usize) -> &[u8]
     ensures { λ r. ⌜ now r ≡ partAt (now (octets .entry)) place ⌝ }
+    ensures { λ r. ⌜ ptr r ≡ onward (ptr (octets .entry)) (partStart (now (octets .entry)) place) ⌝ }
 {
     if place < octets.len() && octets::is_category(octets[place]) {
         let end = group_end(octets, place + 1);

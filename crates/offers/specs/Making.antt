@@ -62,6 +62,12 @@ firstOctetOf Own heardCm ownCm = take 1 ownCm
 abbrev pub callFunction : Record → List ℕ → List ℕ → List ℕ
 callFunction own heardCm ownCm = firstOctetOf (sourceOf own heardCm ownCm) heardCm ownCm
 
+-- .. and it stands there: at the front of that menu, and the empty part at the front of the heard one
+abbrev pub frontOf : Source → ℕ × ℕ → ℕ × ℕ → ℕ × ℕ
+frontOf Neither heardCm ownCm = heardCm
+frontOf Heard heardCm ownCm = heardCm
+frontOf Own heardCm ownCm = ownCm
+
 -- 10, "bad record", or 0
 abbrev pub recordFault : Record → ℕ
 recordFault own = when (badRecord own) 10 0

@@ -11,6 +11,7 @@ ghost use mathlib.Core.Path.{_≡_};
 ghost use mathlib.Core.Bool.{true, false};
 ghost use mathlib.Core.List.{[]};
 ghost use Prim.Native.Nat.{_<_, _≤_};
+ghost use denote.Ref.{ptr};
 ghost use lib.ListN.{length, take, getD};
 ghost use Rattle.laws.specs.Logic.{when};
 ghost use Rattle.refusals.specs.Lent.{roomFault, put, Meets};
@@ -19,7 +20,7 @@ ghost use Rattle.octets.specs.Lists.{readable};
 ghost use Rattle.menus.specs.Offer.{offerOf};
 ghost use Rattle.records.specs.Record.{badRecord};
 ghost use Rattle.offers.specs.Offering.{bit, withItem0, accessOptions, cmOfferOf, withItem1, jmOfferOf, jmOffer};
-ghost use Rattle.offers.specs.Making.{oneOctet, modulationGroup, groupsOf, menuOf, sourceOf, callFunction, madeCm, madeJm};
+ghost use Rattle.offers.specs.Making.{oneOctet, modulationGroup, groupsOf, menuOf, sourceOf, callFunction, frontOf, madeCm, madeJm};
 ghost use Rattle.offers.specs.Inner.{Writes};
 
 // The groups of a menu, in their order: call function, modulation, PCM, protocol, access.
@@ -249,6 +250,7 @@ pub fn call_source(own: Record, heard_cm: &[u8], own_cm: &[u8]) -> Source
 // The first octet, where there is one.
 fn first_of(octets: &[u8]) -> &[u8]
     ensures { λ r. ⌜ now r ≡ take 1 (now (octets .entry)) ⌝ }
+    ensures { λ r. ⌜ ptr r ≡ ptr (octets .entry) ⌝ }
 {
     if 0 < octets.len() {
         return &octets[0..1];
@@ -259,6 +261,7 @@ fn first_of(octets: &[u8]) -> &[u8]
 // The call function octet of a JM, as a part of one of two lent menus: the heard CM, or our own one for the home function.
 pub fn call_function<'a>(own: Record, heard_cm: &'a [u8], own_cm: &'a [u8]) -> &'a [u8]
     ensures { λ r. ⌜ now r ≡ callFunction own (now («heard_cm» .entry)) (now («own_cm» .entry)) ⌝ }
+    ensures { λ r. ⌜ ptr r ≡ frontOf (sourceOf own (now («heard_cm» .entry)) (now («own_cm» .entry))) (ptr («heard_cm» .entry)) (ptr («own_cm» .entry)) ⌝ }
 {
     let source = call_source(own, heard_cm, own_cm);
     match source {

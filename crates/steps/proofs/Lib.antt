@@ -2,6 +2,7 @@ pub mod Known
 pub mod Clock
 pub mod Rows
 pub mod Ranges
+pub mod Refused
 pub mod Unique
 pub mod Runs
 pub mod Ticks

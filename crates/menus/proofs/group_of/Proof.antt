@@ -32,7 +32,7 @@ part-requires c κs = search needs
 
 returns-2 : tie.Need-returns-2
 unfolding groupOf
-returns-2 c = simp (← c .before .before .before .before .first-group .ensures, c .before .before .spot .given .1) (c .part .ensures)
+returns-2 c = simp (← c .before .before .before .before .first-group .ensures, c .before .before .spot .given .1) (c .part .ensures .0)
 
 pub group-of-spec : {M : Type 1} → statement M
 group-of-spec =

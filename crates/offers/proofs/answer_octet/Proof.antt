@@ -67,7 +67,7 @@ part-is asked =
     let size = wrote .write-menu .result in
     let menu = menuOf (made .cm-offer .result) in
     let written : take (size - 0) (wrote .write-menu .last .0) ≡ menu = ap (λ (l : List ℕ). take (size - 0) l) (wrote .write-menu .ensures .buffer) ∙ take-at menu _ (size - 0) (omega (arith, wrote .write-menu .ensures .count)) in
-    asked .call-function .ensures
+    asked .call-function .ensures .0
     ∙ ap (λ (l : List ℕ). callFunction own (now (entry .args .heard-cm)) l) (written ∙ ap menuOf (own-offer made))
     ∙ call-octet own (now (entry .args .heard-cm)) (entry .pre .0) (entry .pre .1) (made .before .before .before .shared-slice-known .given 0 .fits)
 

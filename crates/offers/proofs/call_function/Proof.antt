@@ -1,5 +1,7 @@
 -- `offers::call_function` meets its contract: the source decides whose first octet is handed back.
 -- Assumes nothing.
+use denote.Ref.{ptr}
+use Rattle.menus.proofs.Looking.{stands-at-front}
 use borrow.Author.Needs.{needs}
 use Rattle.offers.proofs.call_function.Statement.{statement}
 use Rattle.offers.proofs.call_function.Tie as tie
@@ -32,13 +34,20 @@ part-result-end : tie.Need-part-result-end
 part-result-end c = search needs
 
 returns : tie.Need-returns
-returns c = simp (c .first-of .ensures, ← c .before .before .before .call-source .ensures, c .before .enum-told .given .1)
+returns c =
+    (simp (c .first-of .ensures .0, ← c .before .before .before .call-source .ensures, c .before .enum-told .given .1), simp (c .first-of .ensures .1, ← c .before .before .before .call-source .ensures, c .before .enum-told .given .1))
 
 returns-2 : tie.Need-returns-2
-returns-2 c = simp (c .first-of2 .ensures, ← c .before .before .before .call-source .ensures, c .before .enum-told2 .given .1)
+returns-2 c = (
+  simp (c .first-of2 .ensures .0, ← c .before .before .before .call-source .ensures, c .before .enum-told2 .given .1),
+  simp (c .first-of2 .ensures .1, ← c .before .before .before .call-source .ensures, c .before .enum-told2 .given .1),
+)
 
 returns-3 : tie.Need-returns-3
-returns-3 c = simp (← c .before .before .before .call-source .ensures, c .before .enum-told3 .given .1)
+returns-3 c = (
+  simp (← c .before .before .before .call-source .ensures, c .before .enum-told3 .given .1),
+  simp (← c .before .before .before .call-source .ensures, c .before .enum-told3 .given .1) (stands-at-front (ptr (c .before .before .before .before .before .before .args .heard-cm))),
+)
 
 pub call-function-spec : {M : Type 1} → statement M
 call-function-spec =

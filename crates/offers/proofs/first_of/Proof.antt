@@ -1,6 +1,7 @@
 -- `offers::first_of` meets its contract: whether an octet stands there decides.
 -- Assumes nothing.
-use denote.Ref.{now}
+use denote.Ref.{now, ptr}
+use Rattle.menus.proofs.Looking.{stands-at-front}
 use Rattle.offers.proofs.Making.{no-first}
 use borrow.Author.Needs.{needs}
 use Rattle.offers.proofs.first_of.Statement.{statement}
@@ -16,7 +17,7 @@ part-result-end : tie.Need-part-result-end
 part-result-end c = search needs
 
 returns : tie.Need-returns
-returns c = search needs
+returns c = (search needs, stands-at-front (ptr (c .before .before .args .octets)))
 
 sub-result-2 : tie.Need-sub-result-2
 sub-result-2 c = search needs
@@ -28,7 +29,7 @@ part-result-end-2 : tie.Need-part-result-end-2
 part-result-end-2 c = search needs
 
 returns-2 : tie.Need-returns-2
-returns-2 c = no-first (now (c .before .before .args .octets)) (c .before .if1 .left)
+returns-2 c = let octets = c .before .before .args .octets in (no-first (now octets) (c .before .if1 .left), stands-at-front (ptr octets))
 
 pub first-of-spec : {M : Type 1} → statement M
 first-of-spec =

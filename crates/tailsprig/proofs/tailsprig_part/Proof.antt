@@ -10,7 +10,7 @@ part-requires : tie.Need-part-requires
 part-requires c κs = search needs
 
 returns : tie.Need-returns
-returns c = ap length (c .part .ensures)
+returns c = ap length (c .part .ensures .0)
 
 pub tailsprig-part-spec : {M : Type 1} → statement M
 tailsprig-part-spec = tie.close (tie.spec part-requires returns)

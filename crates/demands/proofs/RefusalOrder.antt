@@ -1,0 +1,180 @@
+-- The order of refusals: each definition, by its tests, is the first of its faults.
+-- Assumes nothing.
+use Prim.Native.Nat.{ℕ}
+use native.Mathlib.Omega.{arith}
+use mathlib.Core.Path.{_≡_, refl, sym, ap, subst, _∙_}
+use mathlib.Core.Bool.{Bool, true, false, not}
+use mathlib.Core.List.{List, [], _∷_}
+use borrow.Author.Tests.{eqb-true, eqb-false, ltb-true, eq-eqb}
+use lib.Dec.{ltb, eqb}
+use lib.ListN.{length, drop}
+use Rattle.laws.specs.Logic.{when, both}
+use Rattle.laws.proofs.Logic.{either-way}
+use Rattle.refusals.specs.Refusals.{before}
+use Rattle.laws.specs.Front.{front}
+use Rattle.refusals.specs.Lent.{count, WriteOutcome, roomFault, put}
+use Rattle.refusals.specs.Lent as lent
+use Rattle.octets.specs.declared.Purpose.{Purpose}
+use Rattle.octets.specs.declared.Purpose.the-variants.{Reading, Writing}
+use Rattle.octets.specs.Octets.{category, bad}
+use Rattle.octets.specs.Lists.{octetFault, firstFault, opens, listFault}
+use Rattle.octets.proofs.EachOctet.{accepts-or-refuses}
+use Rattle.sequences.specs.Line.{sequence, copies, cj}
+use Rattle.sequences.specs.Writing.{writtenCj}
+use Rattle.sequences.proofs.Lines.{cj-length}
+use Rattle.menus.specs.declared.Offer.{Offer}
+use Rattle.menus.specs.Groups.{looked}
+use Rattle.menus.specs.Offer.{offers, offerOf, menuRead}
+use Rattle.menus.specs.Offer as reading
+use Rattle.offers.specs.Making.{recordFault, functionFault}
+use Rattle.choices.specs.Choosing.{refusal, chosenFrom, onRead, choiceOf}
+use Rattle.steps.specs.declared.Session.{Session}
+use Rattle.steps.specs.Table.{over, rows}
+use Rattle.steps.specs.Session.{inRange}
+use Rattle.steps.specs.Stepping.{StepOutcome, elapsed, owns, carries, findRow, moved, refusedStep, timed, steppedIn, stepped}
+use Rattle.steps.proofs.Refused.{in-time-is-not-refused}
+use Rattle.demands.specs.Joint.{cmOf, jmOf}
+use Rattle.demands.specs.Shared.{Shared}
+use Rattle.demands.proofs.Shared.{choice-is-shared}
+use Rattle.demands.specs.RefusalOrder.{firstOf, answered, tooMany, noCallFunction, takes, octetFaults, stepFaults, RefusalsComeInOrder}
+
+-- the fault of an octet behind the first
+abbrev faultOf : Purpose → ℕ → ℕ
+faultOf p b = when (takes p b) 0 (when (bad b) 3 12)
+
+reading-fault : (isBad isCategory : Bool) → _≡_ {A = ℕ} (when isBad 3 (when isCategory 0 0)) (when (not isBad) 0 (when isBad 3 12))
+unfolding when
+reading-fault true c = refl
+reading-fault false true = refl
+reading-fault false false = refl
+
+octet-fault : (p : Purpose) (b : ℕ) → octetFault p b ≡ faultOf p b
+octet-fault Reading b = reading-fault (bad b) (category b)
+octet-fault (Writing kind) b = accepts-or-refuses kind b
+
+first-fault : (p : Purpose) (octets : List ℕ) → firstFault p octets ≡ firstOf (octetFaults p octets)
+unfolding firstFault
+first-fault p [] = refl
+first-fault p (b ∷ octets) = ap (λ (f : ℕ). before f (firstFault p octets)) (octet-fault p b) ∙ ap (λ (f : ℕ). before (faultOf p b) f) (first-fault p octets)
+
+-- 4 and 5 before that
+in-order : (many opened : Bool) (rest : ℕ) → when many 4 (when opened rest 5) ≡ when (eqb (when many 4 0) 0) (when (eqb (when opened 0 5) 0) rest (when opened 0 5)) (when many 4 0)
+unfolding when
+in-order true opened rest = refl
+in-order false true rest = refl
+in-order false false rest = refl
+
+list-fault : (p : Purpose) (octets : List ℕ) → listFault p octets ≡ firstOf (tooMany octets ∷ noCallFunction octets ∷ octetFaults p (drop 1 octets))
+list-fault p octets =
+    ap (λ (f : ℕ). when (ltb 64 (length octets)) 4 (when (opens octets) f 5)) (first-fault p (drop 1 octets))
+    ∙ in-order (ltb 64 (length octets)) (opens octets) (firstOf (octetFaults p (drop 1 octets)))
+
+-- the last of the faults, as it is told
+by-last : (f : ℕ) (none : Bool) → eqb f 0 ≡ none → f ≡ when none 0 f
+unfolding when
+by-last f true e = eqb-true f 0 e
+by-last f false e = refl
+
+last-fault : (f : ℕ) → f ≡ firstOf (f ∷ [])
+last-fault f = by-last f (eqb f 0) refl
+
+-- what is answered, by whether there is a fault
+module _ {A : Type 0} (fine : A) (refused : ℕ → A) (f : ℕ) where
+  answered-fine : eqb f 0 ≡ true → answered fine refused f ≡ fine
+  unfolding when
+  answered-fine none = simp none
+
+  answered-refused : eqb f 0 ≡ false → answered fine refused f ≡ refused f
+  unfolding when
+  answered-refused some = simp some
+
+-- what a call that writes answers, by its fault
+put-answer : (f : ℕ) (new out : List ℕ) → put f new out .answer ≡ answered (count (length new)) lent.refusal f
+unfolding put
+put-answer f new out =
+    either-way (λ (o : WriteOutcome). o .answer ≡ answered (count (length new)) lent.refusal f) (eqb f 0) (record { answer = count (length new); buffer = front new out }) (record { answer = lent.refusal f; buffer = out })
+    (λ none. sym (answered-fine _ lent.refusal f none)) (λ some. sym (answered-refused (count (length new)) lent.refusal f some))
+
+put-first : (f g : ℕ) (new out : List ℕ) → put (before f g) new out .answer ≡ answered (count (length new)) lent.refusal (firstOf (f ∷ g ∷ []))
+put-first f g new out = put-answer (before f g) new out ∙ ap (λ (h : ℕ). answered (count (length new)) lent.refusal (before f h)) (last-fault g)
+
+put-second : (f g h : ℕ) (new out : List ℕ) → put (before f (before g h)) new out .answer ≡ answered (count (length new)) lent.refusal (firstOf (f ∷ g ∷ h ∷ []))
+put-second f g h new out = put-answer (before f (before g h)) new out ∙ ap (λ (i : ℕ). answered (count (length new)) lent.refusal (before f (before g i))) (last-fault h)
+
+-- the choice: CM, then JM
+by-reads : (cm jm : Offer) (f g : ℕ) (cm-fine jm-fine : Bool) → eqb f 0 ≡ cm-fine → eqb g 0 ≡ jm-fine
+    → onRead (when cm-fine (offers cm) (reading.refusal f)) (λ offer. onRead (when jm-fine (offers jm) (reading.refusal g)) (λ other. chosenFrom offer other))
+    ≡ answered (chosenFrom cm jm) refusal (when cm-fine (when jm-fine 0 g) f)
+unfolding when
+by-reads cm jm f g true true e h = refl
+by-reads cm jm f g true false e h = sym (answered-refused (chosenFrom cm jm) refusal g h)
+by-reads cm jm f g false jm-fine e h = sym (answered-refused (chosenFrom cm jm) refusal f e)
+
+choice-order : (cm jm : List ℕ) → choiceOf cm jm ≡ answered (chosenFrom (offerOf cm) (offerOf jm)) refusal (firstOf (listFault Reading cm ∷ listFault Reading jm ∷ []))
+unfolding menuRead
+choice-order cm jm = by-reads (offerOf cm) (offerOf jm) (listFault Reading cm) (listFault Reading jm) (eqb (listFault Reading cm) 0) (eqb (listFault Reading jm) 0) refl refl
+
+choice-eleven : (cm jm : List ℕ) (n : ℕ) → firstOf (listFault Reading cm ∷ listFault Reading jm ∷ []) ≡ 0 → choiceOf cm jm ≡ refusal n → n ≡ 11
+choice-eleven cm jm n none e =
+    let fault : ℕ = firstOf (listFault Reading cm ∷ listFault Reading jm ∷ []) in
+    let chosen : chosenFrom (offerOf cm) (offerOf jm) ≡ refusal n = sym (choice-order cm jm ∙ answered-fine (chosenFrom (offerOf cm) (offerOf jm)) refusal fault (eq-eqb fault 0 none)) ∙ e in
+    subst (Shared (offerOf cm) (offerOf jm)) chosen (choice-is-shared (offerOf cm) (offerOf jm))
+
+-- steps: by the four tests
+by-tests : (s : Session) (moves : StepOutcome) (inside isOver own soon : Bool)
+    → (firstOf (when inside 0 10 ∷ when isOver 7 0 ∷ when own 0 9 ∷ when soon 0 8 ∷ []) ≡ 0 → ⊥)
+    → when inside (when isOver (refusedStep 7 s) (when own (when soon moves (refusedStep 8 s)) (refusedStep 9 s))) (refusedStep 10 s)
+    ≡ refusedStep (firstOf (when inside 0 10 ∷ when isOver 7 0 ∷ when own 0 9 ∷ when soon 0 8 ∷ [])) s
+unfolding when
+by-tests s moves false isOver own soon some = refl
+by-tests s moves true true own soon some = refl
+by-tests s moves true false false soon some = refl
+by-tests s moves true false true false some = refl
+by-tests s moves true false true true some = absurd (some refl)
+
+step-order : (s : Session) (event value now : ℕ) → (firstOf (stepFaults s event value now) ≡ 0 → ⊥) → stepped s event value now ≡ refusedStep (firstOf (stepFaults s event value now)) s
+unfolding steppedIn timed
+step-order s event value now =
+    by-tests s (moved s event value now (findRow s event value (elapsed now (s .entry)) rows)) (inRange s) (eqb (s .state) over) (both (owns (s .end) event) (carries event value)) (ltb (elapsed now (s .entry)) 2147483648)
+
+-- a step without a fault: what its tests say
+pub record StepFine (s : Session) (event value now : ℕ) : Type 0 where
+  pub inside : inRange s ≡ true
+  pub going : eqb (s .state) over ≡ false
+  pub own : both (owns (s .end) event) (carries event value) ≡ true
+  pub soon : ltb (elapsed now (s .entry)) 2147483648 ≡ true
+
+no-fault : (inside isOver own soon : Bool) → firstOf (when inside 0 10 ∷ when isOver 7 0 ∷ when own 0 9 ∷ when soon 0 8 ∷ []) ≡ 0
+    → (inside ≡ true) × ((isOver ≡ false) × ((own ≡ true) × (soon ≡ true)))
+unfolding when
+no-fault false isOver own soon e = absurd (let z : ⊥ = omega (arith, e) in z)
+no-fault true true own soon e = absurd (let z : ⊥ = omega (arith, e) in z)
+no-fault true false false soon e = absurd (let z : ⊥ = omega (arith, e) in z)
+no-fault true false true false e = absurd (let z : ⊥ = omega (arith, e) in z)
+no-fault true false true true e = (refl, (refl, (refl, refl)))
+
+pub step-fine : (s : Session) (event value now : ℕ) → firstOf (stepFaults s event value now) ≡ 0 → StepFine s event value now
+step-fine s event value now e =
+    let tests = no-fault (inRange s) (eqb (s .state) over) (both (owns (s .end) event) (carries event value)) (ltb (elapsed now (s .entry)) 2147483648) e in
+    record { inside = tests .0; going = tests .1 .0; own = tests .1 .1 .0; soon = tests .1 .1 .1 }
+
+cj-answer : (out : List ℕ) → writtenCj out .answer ≡ answered (count 30) lent.refusal (when (ltb (length out) 30) 6 0)
+cj-answer out = put-answer (roomFault cj out) cj out ∙ ap (λ (n : ℕ). answered (count n) lent.refusal (when (ltb (length out) n) 6 0)) cj-length
+
+pub refusals-come-in-order : RefusalsComeInOrder
+unfolding menuRead looked
+refusals-come-in-order = record {
+  octets = list-fault;
+  read = λ octets. refl;
+  looked = λ octets t. refl;
+  written = λ kind octets n out. put-first (listFault (Writing kind) octets) (roomFault (copies n (sequence kind octets)) out) (copies n (sequence kind octets)) out;
+  writtenCj = cj-answer;
+  cm = λ own function out. put-second (recordFault own) (functionFault own function) (roomFault (cmOf own function) out) (cmOf own function) out;
+  jm = λ own heard out. put-second (recordFault own) (listFault Reading heard) (roomFault (jmOf own heard) out) (jmOf own heard) out;
+  choice = choice-order;
+  eleven = choice-eleven;
+  step = step-order;
+  stepFine = λ s event value now n none e.
+      let fine = step-fine s event value now none in
+      in-time-is-not-refused s event value now (fine .inside) (eqb-false _ _ (fine .going)) (fine .own) (ltb-true _ _ (fine .soon)) n e;
+}
