@@ -34,7 +34,8 @@ use Rattle.steps.specs.Session.{inRange}
 use Rattle.steps.specs.Stepping.{StepOutcome, elapsed, owns, carries, findRow, moved, refusedStep, timed, steppedIn, stepped}
 use Rattle.steps.proofs.Refused.{in-time-is-not-refused}
 use Rattle.demands.specs.Joint.{cmOf, jmOf}
-use Rattle.demands.specs.Shared.{Shared}
+use Rattle.octets.proofs.Lists.{before-none}
+use Rattle.demands.specs.Shared.{NotShared, cmUnread, jmUnread, itemMissing, nonePairs, Shared}
 use Rattle.demands.proofs.Shared.{choice-is-shared}
 use Rattle.demands.specs.RefusalOrder.{firstOf, answered, tooMany, noCallFunction, takes, octetFaults, stepFaults, RefusalsComeInOrder}
 
@@ -114,11 +115,17 @@ choice-order : (cm jm : List ℕ) → choiceOf cm jm ≡ answered (chosenFrom (o
 unfolding menuRead
 choice-order cm jm = by-reads (offerOf cm) (offerOf jm) (listFault Reading cm) (listFault Reading jm) (eqb (listFault Reading cm) 0) (eqb (listFault Reading jm) 0) refl refl
 
+eleven : (cm jm : List ℕ) (n : ℕ) → listFault Reading cm ≡ 0 → listFault Reading jm ≡ 0 → NotShared cm jm n → n ≡ 11
+eleven cm jm n cm-read jm-read (cmUnread refused) = absurd (refused cm-read)
+eleven cm jm n cm-read jm-read (jmUnread fine refused) = absurd (refused jm-read)
+eleven cm jm n cm-read jm-read (itemMissing i readable lowest why) = refl
+eleven cm jm n cm-read jm-read (nonePairs readable counted why) = refl
+
 choice-eleven : (cm jm : List ℕ) (n : ℕ) → firstOf (listFault Reading cm ∷ listFault Reading jm ∷ []) ≡ 0 → choiceOf cm jm ≡ refusal n → n ≡ 11
 choice-eleven cm jm n none e =
-    let fault : ℕ = firstOf (listFault Reading cm ∷ listFault Reading jm ∷ []) in
-    let chosen : chosenFrom (offerOf cm) (offerOf jm) ≡ refusal n = sym (choice-order cm jm ∙ answered-fine (chosenFrom (offerOf cm) (offerOf jm)) refusal fault (eq-eqb fault 0 none)) ∙ e in
-    subst (Shared (offerOf cm) (offerOf jm)) chosen (choice-is-shared (offerOf cm) (offerOf jm))
+    let cm-first = before-none (listFault Reading cm) (before (listFault Reading jm) 0) none in
+    let jm-first = before-none (listFault Reading jm) 0 (cm-first .1) in
+    eleven cm jm n (cm-first .0) (jm-first .0) (subst (Shared cm jm) e (choice-is-shared cm jm .shared))
 
 -- steps: by the four tests
 by-tests : (s : Session) (moves : StepOutcome) (inside isOver own soon : Bool)
