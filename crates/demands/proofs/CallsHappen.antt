@@ -1,8 +1,9 @@
 -- The calls that happen are computed: records, choices, and each event as the order takes it.
 -- Assumes nothing.
-use mathlib.Core.Path.{refl}
+use mathlib.Core.Path.{refl, sym}
 use Rattle.laws.specs.Logic.{when, both, either}
 use Rattle.laws.specs.Joined.{joined}
+use Rattle.laws.proofs.Logic.{clash}
 use Rattle.octets.specs.Lists.{firstFault, untilCategory}
 use Rattle.items.specs.Items.{places, placeOf, hasItem, setOf, inSet, itemBits, modulationOctet}
 use Rattle.menus.specs.Groups.{firstGroup, frontPart, groupOf}
@@ -15,6 +16,7 @@ use Rattle.steps.specs.Table.{rows}
 use Rattle.steps.specs.Session.{inRange}
 use Rattle.steps.specs.Stepping.{elapsed, applies, findRow, timed, steppedIn}
 use Rattle.demands.specs.WholeCall.{all, waiting, comes, byCj, bySigC}
+use Rattle.demands.specs.AnyEvents.{done, more}
 use Rattle.demands.specs.CallsHappen.{CallsHappen}
 
 pub calls-happen : CallsHappen
@@ -27,6 +29,8 @@ calls-happen = record {
     calling = waiting refl (comes refl refl refl (comes refl refl refl (waiting refl (comes refl refl refl (comes refl refl refl (comes refl refl refl (waiting refl (comes refl refl refl all))))))));
     closing = byCj;
     answering = waiting refl (comes refl refl refl (comes refl refl refl (waiting refl (comes refl refl refl (comes refl refl refl all)))));
+    callerCarries = more (λ no. clash (sym no)) (more (λ no. clash (sym no)) (more (λ no. clash (sym no)) (more (λ no. clash (sym no)) (more (λ no. clash (sym no)) (more (λ _. refl) (more (λ no. clash (sym no)) (more (λ no. clash (sym no)) (more (λ no. clash (sym no)) done))))))));
+    answererCarries = more (λ no. clash (sym no)) (more (λ no. clash (sym no)) (more (λ _. refl) (more (λ no. clash (sym no)) (more (λ no. clash (sym no)) (more (λ no. clash (sym no)) done)))));
   };
   bySigC = record {
     call = record { calling = record { six = refl; good = refl }; answering = record { six = refl; good = refl }; available = refl };
@@ -35,6 +39,8 @@ calls-happen = record {
     calling = waiting refl (comes refl refl refl (comes refl refl refl (waiting refl (comes refl refl refl (comes refl refl refl (comes refl refl refl (waiting refl (comes refl refl refl all))))))));
     closing = bySigC refl;
     answering = waiting refl (comes refl refl refl (comes refl refl refl (waiting refl (comes refl refl refl (comes refl refl refl all)))));
+    callerCarries = more (λ no. clash (sym no)) (more (λ no. clash (sym no)) (more (λ no. clash (sym no)) (more (λ no. clash (sym no)) (more (λ no. clash (sym no)) (more (λ _. refl) (more (λ no. clash (sym no)) (more (λ no. clash (sym no)) (more (λ no. clash (sym no)) done))))))));
+    answererCarries = more (λ no. clash (sym no)) (more (λ no. clash (sym no)) (more (λ _. refl) (more (λ no. clash (sym no)) (more (λ no. clash (sym no)) (more (λ no. clash (sym no)) done)))));
   };
   byPcm = record {
     call = record { calling = record { six = refl; good = refl }; answering = record { six = refl; good = refl }; available = refl };
@@ -43,6 +49,8 @@ calls-happen = record {
     calling = waiting refl (comes refl refl refl (comes refl refl refl (waiting refl (comes refl refl refl (comes refl refl refl (comes refl refl refl (waiting refl (comes refl refl refl all))))))));
     closing = byCj;
     answering = waiting refl (comes refl refl refl (comes refl refl refl (waiting refl (comes refl refl refl (comes refl refl refl all)))));
+    callerCarries = more (λ no. clash (sym no)) (more (λ no. clash (sym no)) (more (λ no. clash (sym no)) (more (λ no. clash (sym no)) (more (λ no. clash (sym no)) (more (λ _. refl) (more (λ no. clash (sym no)) (more (λ no. clash (sym no)) (more (λ no. clash (sym no)) done))))))));
+    answererCarries = more (λ no. clash (sym no)) (more (λ no. clash (sym no)) (more (λ _. refl) (more (λ no. clash (sym no)) (more (λ no. clash (sym no)) (more (λ no. clash (sym no)) done)))));
   };
   clears = record {
     call = record { calling = record { six = refl; good = refl }; answering = record { six = refl; good = refl }; available = refl };
@@ -51,5 +59,7 @@ calls-happen = record {
     calling = waiting refl (comes refl refl refl (comes refl refl refl (waiting refl (comes refl refl refl (comes refl refl refl (comes refl refl refl all))))));
     closing = byCj;
     answering = waiting refl (comes refl refl refl (comes refl refl refl (waiting refl (comes refl refl refl all))));
+    callerCarries = more (λ no. clash (sym no)) (more (λ no. clash (sym no)) (more (λ no. clash (sym no)) (more (λ no. clash (sym no)) (more (λ no. clash (sym no)) (more (λ _. refl) (more (λ no. clash (sym no)) (more (λ no. clash (sym no)) (more (λ no. clash (sym no)) done))))))));
+    answererCarries = more (λ no. clash (sym no)) (more (λ no. clash (sym no)) (more (λ _. refl) (more (λ no. clash (sym no)) (more (λ no. clash (sym no)) (more (λ no. clash (sym no)) done)))));
   };
 }

@@ -12,6 +12,7 @@ use Rattle.demands.specs.Worked.{forData}
 use Rattle.demands.specs.Joint.{cmOf, jmOf}
 use Rattle.demands.specs.OneChoice.{Call, callerNames}
 use Rattle.demands.specs.WholeCall.{carried, Due, InOrder, callerOrder, EndsJoint, answererOrder}
+use Rattle.demands.specs.AnyEvents.{Carrying}
 
 -- a call for data, both ends from time 0 on and Te 500: what `both-ends-end-with-the-named-choice` assumes
 pub record Happens (choice : ℕ) (caller answerer : Record) (last : Due) (callerEvents answererEvents : List Timed) : Type 0 where
@@ -21,6 +22,9 @@ pub record Happens (choice : ℕ) (caller answerer : Record) (last : Due) (calle
   pub calling : InOrder (callerFrom 0 500) (callerOrder 500 choice) callerEvents
   pub closing : EndsJoint choice last
   pub answering : InOrder (answererFrom 0) (answererOrder last choice) answererEvents
+  -- and what `no-end-goes-on-otherwise` assumes
+  pub callerCarries : Carrying choice (callerFrom 0 500) callerEvents
+  pub answererCarries : Carrying choice (answererFrom 0) answererEvents
 
 abbrev at : ℕ → ℕ → ℕ → Timed
 at now event value = record { event = event; value = value; now = now }

@@ -24,19 +24,18 @@ abbrev pub oneOf : List ℕ → ℕ → Bool
 oneOf [] n = false
 oneOf (k ∷ ks) n = either (eqb k n) (oneOf ks n)
 
--- "0 .. nothing is shared", "1 to 12 .. an item", "17 to 23 .. TAILSPRIG_PCM + the options"; "Refusals, in this order: 4, 5 and 3 of CM, the
--- same of JM, then .. 11"
+-- `tailsprig_choice`: 0 for none, 1 to 12 for an item, 17 to 23 for PCM options; refusals 4, 5 and 3 of a menu, and 11
 abbrev pub choiceNumber : ℤ → Bool
 choiceNumber (pos n) = isChoice n
 choiceNumber (negsuc n) = oneOf (3 ∷ 4 ∷ 5 ∷ 11 ∷ []) (suc n)
 
--- "0 .. nothing changed", "1 to 9 .. the state entered", "17 to 20 .. over: TAILSPRIG_ENDED + left, late, cleared or not offered", "33 to 55
--- .. over: TAILSPRIG_GO_ON + the choice", which is an item or PCM options; refusals "10", "7", "9", "8"
+-- `tailsprig_step`: 0 for "same", 1 to 9 for the state entered, 17 to 20 for left, late, cleared or not offered, and of 33 to 55 those that
+-- are 32 and a choice; refusals 10, 7, 9 and 8
 abbrev pub stepNumber : ℤ → Bool
 stepNumber (pos n) = either (leb n 9) (either (between 17 20 n) (either (between 33 44 n) (between 49 55 n)))
 stepNumber (negsuc n) = oneOf (7 ∷ 8 ∷ 9 ∷ 10 ∷ []) (suc n)
 
--- nothing, CI, a menu, an agreed menu, CJ; refusals "10", "1", "2", "3", "4", "13"
+-- `tailsprig_hear` and `tailsprig_hear_many`: 0 to 4 for nothing, CI, a menu, an agreed menu, CJ; refusals 10, 1, 2, 3, 4 and 13
 abbrev pub heardNumber : ℤ → Bool
 heardNumber (pos n) = leb n 4
 heardNumber (negsuc n) = oneOf (1 ∷ 2 ∷ 3 ∷ 4 ∷ 10 ∷ 13 ∷ []) (suc n)
