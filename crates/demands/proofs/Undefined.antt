@@ -11,6 +11,7 @@ use lib.Dec.{eqb}
 use lib.ListN.{length, getD, List·getD-append}
 use Rattle.laws.specs.Logic.{when, both}
 use Rattle.laws.specs.Tests.{every}
+use Rattle.laws.proofs.Computed.{every-joined}
 use Rattle.laws.proofs.Logic.{both-true, both-neither}
 use Rattle.octets.specs.declared.Purpose.the-variants.{Reading}
 use Rattle.octets.specs.Octets.{category, tag, options, extension}
@@ -95,11 +96,6 @@ module _ (c : ℕ) (a x b : List ℕ) (read : listFault Reading (c ∷ (a ++ b))
       let parts = faultless-parts Reading a b (accepted-rest Reading (c ∷ (a ++ b)) read) in
       accepted-by Reading c (a ++ (x ++ b)) short (first .0) (eqb-true (tag c) 1 (first .1)) (faultless Reading a (x ++ b) (parts .0) (faultless Reading x b fine (parts .1)))
 
-every-joined : (extensions more : List ℕ) → every extension extensions ≡ true → every extension more ≡ true → every extension (extensions ++ more) ≡ true
-unfolding every both
-every-joined [] more first others = others
-every-joined (b ∷ extensions) more first others = let here = both-true (extension b) (every extension extensions) first in ap₂ both (here .0) (every-joined extensions more (here .1) others)
-
 -- items past the third octet are none
 items-same : (octet : ℕ) (extensions more : List ℕ) → 2 ≤ length extensions → itemsOf (octet ∷ (extensions ++ more)) ≡ itemsOf (octet ∷ extensions)
 unfolding hasItem
@@ -135,7 +131,7 @@ module _ (front rest : List ℕ) (octet : ℕ) (extensions : List ℕ) (ends : g
 -- extension octets past those defined
 module _ (front rest : List ℕ) (octet : ℕ) (extensions more : List ℕ) (ends : groupEnds rest 0 ≡ true) (is-group : IsGroup octet extensions) (extends : every extension more ≡ true) (past : tag octet ≡ modulation → 2 ≤ length extensions) where
   longer : IsGroup octet (extensions ++ more)
-  longer = record { opens = is-group .opens; extends = every-joined extensions more (is-group .extends) extends }
+  longer = record { opens = is-group .opens; extends = every-joined extension extensions more (is-group .extends) extends }
 
   said-same : {A : Type 0} (say : List ℕ → A) (t : ℕ) → (opensGroup t octet ≡ true → say (octet ∷ (extensions ++ more)) ≡ say (octet ∷ extensions))
       → say (groupOf (front ++ ((octet ∷ (extensions ++ more)) ++ rest)) t) ≡ say (groupOf (front ++ ((octet ∷ extensions) ++ rest)) t)

@@ -1,0 +1,160 @@
+-- From two records to both ends' sessions: what is written is heard as it was made, so the whole call holds of what the bits bring. And there
+-- is such an exchange for every call: each buffer is as long as what is put there.
+-- Assumes nothing.
+use Prim.Native.Nat.{ℕ, suc}
+use native.Mathlib.Omega.{arith}
+use mathlib.Core.Path.{_≡_, refl, sym, ap, subst, _∙_}
+use mathlib.Core.Bool.{Bool, true, false}
+use mathlib.Core.List.{List, [], _∷_, _++_}
+use borrow.Author.Tests.{le-ltb, lt-ltb}
+use lib.Dec.{ltb}
+use lib.ListN.{length, replicate}
+use Rattle.laws.specs.Logic.{when, both}
+use Rattle.laws.specs.Front.{front}
+use Rattle.laws.specs.Joined.{joined}
+use Rattle.laws.specs.Tests.{every}
+use Rattle.laws.proofs.Computed.{every-joined}
+use Rattle.octets.specs.declared.Kind.the-variants.{Menu}
+use Rattle.octets.specs.declared.Purpose.the-variants.{Writing}
+use Rattle.octets.specs.Octets.{callFunctionTag, categoryOctet}
+use Rattle.octets.specs.Lists.{listFault}
+use Rattle.items.specs.Items.{modulationOctet}
+use Rattle.items.proofs.Places.{octet-0, octet-1, octet-2}
+use Rattle.menus.specs.declared.Offer.{Offer}
+use Rattle.menus.specs.Offer.{pcmTag, protocol, lapmOption, access, offerOf}
+use Rattle.refusals.specs.Refusals.{before}
+use Rattle.refusals.specs.Lent.{count, WriteOutcome, roomFault, put}
+use Rattle.sequences.specs.Line.{tenOnes, sequence, copies}
+use Rattle.sequences.specs.Writing.{written}
+use Rattle.listening.specs.Record.{fresh}
+use Rattle.stretches.specs.Stretch.{octetsAll}
+use Rattle.stretches.specs.Hearing.{message, reports, repeated}
+use Rattle.stretches.proofs.Copies.{put-front, copies-read, buffer-read}
+use Rattle.records.specs.declared.Record.{Record}
+use Rattle.offers.specs.Offering.{cmOffer, jmOffer}
+use Rattle.offers.specs.Making.{oneOctet, modulationGroup, menuOf}
+use Rattle.offers.proofs.Meaning.{menu-writable, menu-readable}
+use Rattle.demands.specs.Joint.{cmOf, jmOf}
+use Rattle.demands.specs.OneChoice.{Call}
+use Rattle.demands.specs.FromBits.{Makes, Sends, Agreed, here, later, Exchange, ExchangeEnds}
+use Rattle.demands.proofs.WholeCall.{both-ends-end-with-the-named-choice}
+
+-- the octets of a menu that is made are octets
+category-small : (t o : ℕ) → ltb (categoryOctet t o) 256 ≡ true
+category-small t o = lt-ltb (categoryOctet t o) 256 (omega arith)
+
+octet-small : (t o : ℕ) → octetsAll (categoryOctet t o ∷ []) ≡ true
+unfolding every both
+octet-small t o = simp (category-small t o)
+
+one-small : (there : Bool) (t o : ℕ) → octetsAll (oneOctet there (categoryOctet t o)) ≡ true
+unfolding when every
+one-small true t o = octet-small t o
+one-small false t o = refl
+
+modulation-small : (items : ℕ) → octetsAll (modulationGroup items) ≡ true
+unfolding modulationGroup every both
+modulation-small items =
+    simp (lt-ltb (modulationOctet items 0) 256 (omega (arith, octet-0 items)), lt-ltb (modulationOctet items 1) 256 (omega (arith, octet-1 items)), lt-ltb (modulationOctet items 2) 256 (omega (arith, octet-2 items)))
+
+none-small : octetsAll (joined []) ≡ true
+unfolding joined every
+none-small = refl
+
+more-small : (group : List ℕ) (groups : List (List ℕ)) → octetsAll group ≡ true → octetsAll (joined groups) ≡ true → octetsAll (joined (group ∷ groups)) ≡ true
+unfolding joined
+more-small group groups = every-joined (λ (b : ℕ). ltb b 256) group (joined groups)
+
+menu-small : (offer : Offer) → octetsAll (menuOf offer) ≡ true
+menu-small offer =
+    more-small _ _ (octet-small callFunctionTag (offer .function))
+    (more-small _ _ (modulation-small (offer .items))
+    (more-small _ _ (one-small (ltb 0 (offer .pcm)) pcmTag (offer .pcm))
+    (more-small _ _ (one-small (offer .lapm) protocol lapmOption)
+    (more-small _ _ (one-small (offer .access) access (offer .«access_options»)) none-small))))
+
+-- what is made stands in its buffer
+made-as : (f : ℕ) (menu lent octets : List ℕ) → Makes (put f menu lent) octets → octets ≡ menu
+made-as f menu lent octets makes = sym (makes .stands) ∙ put-front f menu lent (makes .size) (makes .told) .1
+
+-- and what is sent of it is heard, agreed from the second copy on
+heard-copies : (octets bits : List ℕ) → octetsAll octets ≡ true → (sends : Sends octets bits) → reports fresh bits ≡ repeated Menu octets (sends .copies)
+heard-copies octets bits small sends = ap (reports fresh) (sym (sends .stands)) ∙ buffer-read Menu octets (sends .copies) (sends .lent) (sends .size) small (sends .told)
+
+agreed-again : (n : ℕ) (heard octets : List ℕ) → Agreed heard (replicate n (message Menu octets true)) → heard ≡ octets
+agreed-again (suc n) heard octets here = refl
+
+agreed-as : (n : ℕ) (heard octets : List ℕ) → Agreed heard (repeated Menu octets n) → heard ≡ octets
+agreed-as (suc n) heard octets (later rest) = agreed-again n heard octets rest
+
+heard-as : (octets bits heard : List ℕ) → octetsAll octets ≡ true → Sends octets bits → Agreed heard (reports fresh bits) → heard ≡ octets
+heard-as octets bits heard small sends agreed = agreed-as (sends .copies) heard octets (subst (Agreed heard) (heard-copies octets bits small sends) agreed)
+
+module _ (caller answerer : Record) (function : ℕ) (call : Call caller answerer function) (e : Exchange caller answerer function) where
+  cm-made : e .cm ≡ cmOf caller function
+  cm-made = made-as _ (cmOf caller function) (e .cmLent) (e .cm) (e .makesCm)
+
+  jm-made : e .jm ≡ jmOf answerer (e .heardCm)
+  jm-made = made-as _ (jmOf answerer (e .heardCm)) (e .jmLent) (e .jm) (e .makesJm)
+
+  cm-heard : e .heardCm ≡ e .cm
+  cm-heard = heard-as (e .cm) (e .cmBits) (e .heardCm) (rw cm-made (menu-small (cmOffer caller function))) (e .sendsCm) (e .agreedCm)
+
+  jm-heard : e .heardJm ≡ e .jm
+  jm-heard = heard-as (e .jm) (e .jmBits) (e .heardJm) (rw jm-made (menu-small (jmOffer answerer (offerOf (e .heardCm))))) (e .sendsJm) (e .agreedJm)
+
+  pub exchange-ends : ExchangeEnds caller answerer function e
+  exchange-ends = record {
+    cmArrives = cm-heard;
+    jmArrives = jm-heard;
+    ends = rw (cm-made, jm-made) (both-ends-end-with-the-named-choice caller answerer function call (e .heardCm) (e .heardJm) (cm-heard ∙ cm-made) (jm-heard ∙ jm-made));
+  }
+
+-- a buffer as long as what is put there
+room-there : (new : List ℕ) → roomFault new new ≡ 0
+unfolding when
+room-there new = simp (le-ltb (length new) (length new) (omega arith))
+
+put-fine : (f : ℕ) (new lent : List ℕ) → f ≡ 0 → put f new lent ≡ record { answer = count (length new); buffer = front new lent }
+unfolding put when
+put-fine f new lent none = simp none
+
+makes-it : (f : ℕ) (menu : List ℕ) → f ≡ 0 → Makes (put f menu menu) menu
+makes-it f menu none =
+    let is = put-fine f menu menu none in
+    let told : put f menu menu .answer ≡ count (length menu) = ap (λ (o : WriteOutcome). o .answer) is in
+    record { size = length menu; told = told; stands = put-front f menu menu (length menu) told .1 }
+
+sends-it : (octets : List ℕ) → listFault (Writing Menu) octets ≡ 0 → Sends octets (copies 2 (sequence Menu octets) ++ tenOnes)
+unfolding when
+sends-it octets fine =
+    let line = copies 2 (sequence Menu octets) in
+    let f = before (listFault (Writing Menu) octets) (roomFault line line) in
+    let is = put-fine f line line (simp (fine, room-there line)) in
+    let told : written Menu octets 2 line .answer ≡ count (length line) = ap (λ (o : WriteOutcome). o .answer) is in
+    record { copies = 2; two = omega arith; lent = line; size = length line; told = told; stands = ap (λ (l : List ℕ). l ++ tenOnes) (put-front f line line (length line) told .1) }
+
+agrees-it : (octets : List ℕ) → octetsAll octets ≡ true → listFault (Writing Menu) octets ≡ 0 → Agreed octets (reports fresh (copies 2 (sequence Menu octets) ++ tenOnes))
+agrees-it octets small fine = rw (copies-read Menu octets (record { octet = small; taken = fine }) 2) (later here)
+
+pub exchange-happens : (caller answerer : Record) (function : ℕ) → Call caller answerer function → Exchange caller answerer function
+unfolding when
+exchange-happens caller answerer function call =
+    let cm = cmOf caller function in
+    let jm = jmOf answerer cm in
+    record {
+      cmLent = cm;
+      cm = cm;
+      makesCm = makes-it _ cm (simp (call .calling .good, call .available, room-there cm));
+      cmBits = copies 2 (sequence Menu cm) ++ tenOnes;
+      sendsCm = sends-it cm (menu-writable (cmOffer caller function));
+      heardCm = cm;
+      agreedCm = agrees-it cm (menu-small (cmOffer caller function)) (menu-writable (cmOffer caller function));
+      jmLent = jm;
+      jm = jm;
+      makesJm = makes-it _ jm (simp (call .answering .good, menu-readable (cmOffer caller function), room-there jm));
+      jmBits = copies 2 (sequence Menu jm) ++ tenOnes;
+      sendsJm = sends-it jm (menu-writable (jmOffer answerer (offerOf cm)));
+      heardJm = jm;
+      agreedJm = agrees-it jm (menu-small (jmOffer answerer (offerOf cm))) (menu-writable (jmOffer answerer (offerOf cm)));
+    }
