@@ -28,7 +28,7 @@ use Rattle.codes.specs.declared.Asked.the-variants.{Known, Unknown}
 use Rattle.codes.specs.Writing.{writtenAs}
 use Rattle.framing.specs.declared.Turned.{Turned}
 use Rattle.framing.specs.Framing.{report, tellCj, refusalIn, turnedBy}
-use Rattle.framing.proofs.Refused.{Asks, fine, no-bit, stop-bit, bad-octet, too-many, cut-short, asked-by}
+use Rattle.framing.proofs.Refused.{Refuses, fine, no-bit, stop-bit, bad-octet, too-many, cut-short, refuses}
 use Rattle.listening.specs.declared.Message.{Message}
 use Rattle.listening.specs.declared.Listener.{Listener}
 use Rattle.listening.specs.Record.{inRange}
@@ -128,7 +128,7 @@ module _ (rec : Listener) (bit : ℕ) where
   known : (k n : ℕ) (after : Listener) → Refused k after → refusal k ≡ refusal n → Refused n after
   known k n after r e = let same : k ≡ n = omega (arith, ap numberTold e) in subst (λ (m : ℕ). Refused m after) same r
 
-  by-act : (n : ℕ) (t : Turned) → Asks (rec .ear) bit t → acted rec t .report ≡ refusal n → Refused n (acted rec t .rec)
+  by-act : (n : ℕ) (t : Turned) → Refuses (rec .ear) bit t → acted rec t .report ≡ refusal n → Refused n (acted rec t .rec)
   unfolding acted changed told toldAlone when refusalIn
   by-act n t (fine low) e = absurd (let z : ⊥ = omega (arith, told-fine (t .act) (rec .msg) (rec .last) low, ap numberTold e) in z)
   by-act n t no-bit e = known 1 n _ one e
@@ -141,7 +141,7 @@ module _ (rec : Listener) (bit : ℕ) where
   unfolding heardIn
   refused-bit n =
       either-way (λ (o : HearOutcome). o .report ≡ refusal n → Refused n (o .rec)) (inRange rec) (heardIn rec bit) (refusedBit 10 rec)
-      (λ _. by-act n (turnedBy (rec .ear) (rec .msg .len) bit) (asked-by (rec .ear) bit (rec .msg .len)))
+      (λ _. by-act n (turnedBy (rec .ear) (rec .msg .len) bit) (refuses (rec .ear) bit (rec .msg .len)))
       (λ _. known 10 n rec ten)
 
   number-known : (n : ℕ) (after : Listener) → Refused n after → oneOf (1 ∷ 2 ∷ 3 ∷ 4 ∷ 10 ∷ 13 ∷ []) n ≡ true
