@@ -25,7 +25,7 @@ use Rattle.menus.specs.Offer.{Read, offers, menuRead}
 use Rattle.menus.specs.Offer as menus
 use Rattle.menus.specs.Pcm.{paired}
 use Rattle.choices.specs.Choosing.{lowestFrom, pcmChoice, itemChoice, chosenFrom}
-use Rattle.demands.proofs.WholeCall.{kindOf}
+use Rattle.demands.proofs.OneChoice.{kindOf}
 use Rattle.demands.specs.Worked.{cmOfA}
 use Rattle.demands.specs.WrongPrograms.{tellsRefusal, NoNamedWrongProgramFits}
 
