@@ -97,7 +97,7 @@ tells-refusal : (n : ℕ) → Reads n → (n ≡ 0 → ⊥) → TellsChoice (ref
 unfolding either
 tells-refusal zero reads some = absurd (some refl)
 tells-refusal (suc n) reads some = record {
-  number = either-right (eqb 0 (suc n)) (oneOf (3 ∷ 4 ∷ 5 ∷ 11 ∷ []) (suc n)) reads (ne-eqb 0 (suc n) (λ z. omega (arith, z)));
+  number = either-right (eqb (suc n) 0) (oneOf (3 ∷ 4 ∷ 5 ∷ 11 ∷ []) (suc n)) reads (ne-eqb (suc n) 0 (λ z. omega (arith, z)));
   known = lt-ltb 0 (suc n) (omega arith);
   handed = ap (λ (t : Bool). when t refusedWith11 nothingCarried) (by-11 (eqb n 10) n refl);
 }

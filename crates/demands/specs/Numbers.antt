@@ -19,10 +19,10 @@ use Rattle.codes.specs.Steps.{nothingCarried, stepCode}
 use Rattle.codes.specs.Hearing.{toldCode}
 use Rattle.demands.specs.WholeCall.{carried}
 
--- the number is one of these
+-- one of the numbers
 abbrev pub oneOf : List ℕ → ℕ → Bool
 oneOf [] n = false
-oneOf (k ∷ ks) n = either (eqb k n) (oneOf ks n)
+oneOf (k ∷ ks) n = either (eqb n k) (oneOf ks n)
 
 -- `tailsprig_choice`: 0 for none, 1 to 12 for an item, 17 to 23 for PCM options; refusals 4, 5 and 3 of a menu, and 11
 abbrev pub choiceNumber : ℤ → Bool
