@@ -37,6 +37,7 @@ use Rattle.offers.proofs.Meaning.{menu-writable, menu-readable}
 use Rattle.demands.specs.Joint.{cmOf, jmOf}
 use Rattle.demands.specs.OneChoice.{Call}
 use Rattle.demands.specs.FromBits.{Makes, Sends, Agreed, here, later, Exchange, ExchangeEnds}
+use Rattle.demands.proofs.Joint.{available-used}
 use Rattle.demands.proofs.WholeCall.{both-ends-end-with-the-named-choice}
 
 -- the octets of a menu that is made are octets
@@ -145,7 +146,7 @@ exchange-happens caller answerer function call =
     record {
       cmLent = cm;
       cm = cm;
-      makesCm = makes-it _ cm (simp (call .calling .good, call .available, room-there cm));
+      makesCm = makes-it _ cm (simp (call .calling .good, sym (available-used caller function) ∙ call .available, room-there cm));
       cmBits = copies 2 (sequence Menu cm) ++ tenOnes;
       sendsCm = sends-it cm (menu-writable (cmOffer caller function));
       heardCm = cm;

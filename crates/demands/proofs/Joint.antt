@@ -1,13 +1,13 @@
 -- The JM that is made holds exactly what is shared, and what is made reads back as it was meant. What is read back is the draft, and the
 -- draft's set of items and its PCM options hold a bit exactly where both ends do; item 0 is apart from the others.
 -- Assumes nothing.
-use Prim.Native.Nat.{ℕ, _<_, _+_, _*_, _/_, _%_, _^_}
+use Prim.Native.Nat.{ℕ, zero, suc, _<_, _+_, _*_, _/_, _%_, _^_}
 use native.Mathlib.Nat.{one-mul}
 use native.Mathlib.Omega.{arith}
 use mathlib.Core.Path.{_≡_, refl, sym, ap, ap₂, _∙_}
 use mathlib.Core.Bool.{Bool, true, false}
 use mathlib.Core.List.{List}
-use borrow.Author.Tests.{eq-eqb, ne-eqb}
+use borrow.Author.Tests.{eq-eqb, ne-eqb, eqb-true}
 use lib.Dec.{ltb, eqb, lit<}
 use Rattle.laws.specs.Logic.{when, both, either}
 use Rattle.laws.proofs.Logic.{bit-of-test}
@@ -19,14 +19,13 @@ use Rattle.items.proofs.Sets.{none-in}
 use Rattle.menus.proofs.Reading.{menu-read}
 use Rattle.records.specs.declared.Modes.{Modes}
 use Rattle.records.specs.declared.Record.{Record}
-use Rattle.records.specs.Record.{flag, noModes, inUse}
-use Rattle.records.proofs.Good.{none-used}
+use Rattle.records.specs.Record.{flag, noModes, modesAt, inUse}
 use Rattle.offers.specs.Offering.{bit, withItem0, accessOptions, cmAccess, cmOffer, withItem1, sharedItems, jmPcm, jmOffer}
 use Rattle.menus.specs.Pcm.{analogue, digital, v91, paired}
 use Rattle.offers.proofs.Making.{bit-small}
 use Rattle.offers.proofs.Meaning.{menu-readable, menu-writable, read-back}
 use Rattle.offers.proofs.Saying.{cm-sayable, jm-sayable}
-use Rattle.demands.specs.Joint.{AcceptedRecord, cmOf, jmOf, has, hasFor, pcmFor, saysCellular, HoldsWhatBothHave, HoldsWhatBothRecordsHave, IsReadBack}
+use Rattle.demands.specs.Joint.{AcceptedRecord, cmOf, jmOf, has, filledIn, isAvailable, hasFor, pcmFor, saysCellular, HoldsWhatBothHave, HoldsWhatBothRecordsHave, IsReadBack}
 use Rattle.demands.specs.OneChoice.{Call}
 use Rattle.demands.proofs.Shared.{has-read, crosswise}
 
@@ -53,14 +52,36 @@ jm-is-read-back own good heard = record {
 beside-item-0 : (there : Bool) (items i : ℕ) → 0 < i → inSet (withItem0 there items) i ≡ inSet items i
 beside-item-0 there items i h = same-half (withItem0 there items) items i (omega (arith, bit-small there)) h
 
--- a record has nothing for a function that is not available
-both-by : (t : Bool) (modes : Modes) (i : ℕ) → (t ≡ false → modes ≡ noModes) → both t (inSet (modes .items) i) ≡ inSet (modes .items) i
-unfolding both
-both-by true modes i h = refl
-both-by false modes i h = sym (ap (λ (m : Modes). inSet (m .items) i) (h refl) ∙ none-in i)
+-- what is filled in counts where the function is available
+used : (own : Record) (function : ℕ) → inUse own function ≡ when (isAvailable own function) (filledIn own function) noModes
+unfolding modesAt when
+used own zero = refl
+used own (suc n) = refl
 
-pub has-used : (own : Record) (function i : ℕ) → hasFor own function i ≡ inSet (inUse own function .items) i
-has-used own function i = both-by (flag (inUse own function .available)) (inUse own function) i (none-used (own .functions) function)
+items-by : (t : Bool) (modes : Modes) (i : ℕ) → both t (inSet (modes .items) i) ≡ inSet (when t modes noModes .items) i
+unfolding both when
+items-by true modes i = refl
+items-by false modes i = sym (none-in i)
+
+pcm-by : (t : Bool) (modes : Modes) → when t (modes .pcm) 0 ≡ when t modes noModes .pcm
+unfolding when
+pcm-by true modes = refl
+pcm-by false modes = refl
+
+available-by : (t : Bool) (modes : Modes) → flag (modes .available) ≡ t → t ≡ flag (when t modes noModes .available)
+unfolding when
+available-by true modes e = sym e
+available-by false modes e = refl
+
+module _ (own : Record) (function : ℕ) where
+  pub has-used : (i : ℕ) → hasFor own function i ≡ inSet (inUse own function .items) i
+  has-used i = items-by (isAvailable own function) (filledIn own function) i ∙ sym (ap (λ (m : Modes). inSet (m .items) i) (used own function))
+
+  pub pcm-used : pcmFor own function ≡ inUse own function .pcm
+  pcm-used = pcm-by (isAvailable own function) (filledIn own function) ∙ sym (ap (λ (m : Modes). m .pcm) (used own function))
+
+  pub available-used : isAvailable own function ≡ flag (inUse own function .available)
+  available-used = available-by (isAvailable own function) (filledIn own function) refl ∙ sym (ap (λ (m : Modes). flag (m .available)) (used own function))
 
 -- item 0 as it is told
 item-0-told : (there : Bool) (items : ℕ) → inSet (withItem0 there items) 0 ≡ there
@@ -99,7 +120,7 @@ module _ (own : Record) (good : AcceptedRecord own) (heard : List ℕ) where
   pub pcm-made : offerOf (jmOf own heard) .pcm ≡ withItem1 (has (jmOf own heard) 1) (paired (offerOf heard .pcm) (pcmFor own (offerOf heard .function)))
   pcm-made =
       ap (λ (o : Offer). o .pcm) (jm-back own good heard)
-      ∙ ap (λ (t : Bool). withItem1 t (paired (offerOf heard .pcm) (modes .pcm))) (sym (item-shared 1 (lit< tt) (lit< tt)))
+      ∙ ap₂ (λ (t : Bool) (n : ℕ). withItem1 t (paired (offerOf heard .pcm) n)) (sym (item-shared 1 (lit< tt) (lit< tt))) (sym (pcm-used own (offerOf heard .function)))
 
   pub jm-holds-what-both-have : HoldsWhatBothHave own heard
   jm-holds-what-both-have =
@@ -132,7 +153,7 @@ module _ (caller answerer : Record) (function : ℕ) (call : Call caller answere
   answered = jmOf answerer sent
 
   asked-for : offerOf sent ≡ cm
-  asked-for = cm-back caller (call .calling) function (call .available)
+  asked-for = cm-back caller (call .calling) function (eqb-true _ 1 (sym (available-used caller function) ∙ call .available))
 
   answered-with : offerOf answered ≡ jmOffer answerer cm
   answered-with = jm-back answerer (call .answering) sent ∙ ap (jmOffer answerer) asked-for
@@ -140,7 +161,7 @@ module _ (caller answerer : Record) (function : ℕ) (call : Call caller answere
   cm-has : (i : ℕ) → 0 < i → i < 13 → has sent i ≡ hasFor caller function i
   cm-has i low high =
       has-read sent i high ∙ ap (λ (o : Offer). inSet (o .items) i) asked-for
-      ∙ beside-item-0 (ltb 0 (pcmFor caller function)) (inUse caller function .items) i low
+      ∙ beside-item-0 (ltb 0 (inUse caller function .pcm)) (inUse caller function .items) i low
       ∙ sym (has-used caller function i)
 
   from-records : (i : ℕ) → 0 < i → i < 13 → has answered i ≡ both (hasFor caller function i) (hasFor answerer function i)
@@ -154,12 +175,15 @@ module _ (caller answerer : Record) (function : ℕ) (call : Call caller answere
   pcm-from-records =
       pcm-made answerer (call .answering) sent
       ∙ ap₂ (λ (t : Bool) (o : Offer). withItem1 t (paired (o .pcm) (pcmFor answerer (o .function)))) (from-records 1 (lit< tt) (lit< tt)) asked-for
+      ∙ ap (λ (n : ℕ). withItem1 (both (hasFor caller function 1) (hasFor answerer function 1)) (paired n (pcmFor answerer function))) (sym (pcm-used caller function))
 
   pcm-there : ltb 0 (offerOf answered .pcm) ≡ ltb 0 (jmPcm (inUse answerer function) cm)
   pcm-there = ap (λ (o : Offer). ltb 0 (o .pcm)) answered-with
 
   b5-theirs : cm .«access_options» % 2 ≡ bit (saysCellular caller function)
-  b5-theirs = b5-told (cmAccess caller (pcmFor caller function)) (flag (caller .cellular)) (flag (caller .digital))
+  b5-theirs =
+      b5-told (cmAccess caller (inUse caller function .pcm)) (flag (caller .cellular)) (flag (caller .digital))
+      ∙ ap (λ (n : ℕ). bit (both (cmAccess caller n) (flag (caller .cellular)))) (sym (pcm-used caller function))
 
   cellular-said : eqb (cm .«access_options» % 2) 1 ≡ saysCellular caller function
   cellular-said = ap (λ (n : ℕ). eqb n 1) b5-theirs ∙ bit-of-test (saysCellular caller function) .1
@@ -173,7 +197,7 @@ module _ (caller answerer : Record) (function : ℕ) (call : Call caller answere
   jm-holds-what-both-records-have =
       let bits = crossed (both (hasFor caller function 1) (hasFor answerer function 1)) (pcmFor caller function) (pcmFor answerer function) in
       record {
-        named = ap (λ (o : Offer). o .function) answered-with;
+        named = ap (λ (o : Offer). o .function) answered-with ∙ ap (λ (t : Bool). when t function (answerer .home)) (sym (available-used answerer function));
         items = from-records;
         b5 = ap analogue pcm-from-records ∙ bits .0;
         b6 = ap digital pcm-from-records ∙ bits .1;

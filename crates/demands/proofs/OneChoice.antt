@@ -31,7 +31,7 @@ use Rattle.demands.specs.Joint.{AcceptedRecord, cmOf, jmOf, has, hasFor,
 use Rattle.demands.specs.OneChoice.{Call, NothingShared, callerNames, answererNames, BothNameOneChoice, NothingInBoth, AnswersAnyCm}
 use Rattle.demands.specs.Shared.{NothingOffered, SharedPcm, NotShared, cmUnread, jmUnread, itemMissing, nonePairs, Shared}
 use Rattle.demands.proofs.Shared.{crosswise, by-bits, choice-is-shared}
-use Rattle.demands.proofs.Joint.{jm-back, pcm-made, has-used, pcm-from-records, jm-holds-what-both-have, jm-holds-what-both-records-have}
+use Rattle.demands.proofs.Joint.{jm-back, pcm-made, has-used, pcm-used, available-used, pcm-from-records, jm-holds-what-both-have, jm-holds-what-both-records-have}
 
 -- options that pair still pair in the answer, and b5 or b6 among them come from both ends
 abbrev pairs : ℕ → ℕ → Bool → Bool
@@ -70,9 +70,19 @@ unfolding when
 no-item-1 true n e = clash e
 no-item-1 false n e = omega arith
 
+-- what kind of choice it is
+abbrev pub kindOf : Chosen → ℕ
+kindOf none = 0
+kindOf (item i) = 1
+kindOf (pcm options) = 2
+kindOf (refusal n) = 3
+
 -- options of a menu are below 8
 options-small : (menu : List ℕ) → offerOf menu .pcm < 8
 options-small menu = either-way (λ (n : ℕ). n < 8) _ _ _ (λ _. omega arith) (λ _. lit< tt)
+
+pcm-small : (own : Record) → AcceptedRecord own → (function : ℕ) → pcmFor own function < 8
+pcm-small own good function = subst (λ (n : ℕ). n < 8) (sym (pcm-used own function)) (good-modes own (good .good) function .pcm)
 
 -- whatever CM is heard, as far as it can be read
 module _ (own : Record) (good : AcceptedRecord own) (heard : List ℕ) (readable : listFault Reading heard ≡ 0) where
@@ -99,19 +109,19 @@ module _ (own : Record) (good : AcceptedRecord own) (heard : List ℕ) (readable
   item-in-both i low high there = both-true _ _ (sym (holds .items i low high) ∙ there)
 
   item-available : (i : ℕ) → hasFor own function i ≡ true → flag (inUse own function .available) ≡ false → ⊥
-  item-available i there missing = clash (sym (both-true _ _ there .0) ∙ missing)
+  item-available i there missing = clash (sym (both-true _ _ there .0) ∙ available-used own function ∙ missing)
 
   -- so is a PCM option
   pcm-available : 0 < offerOf jm .pcm → flag (inUse own function .available) ≡ false → ⊥
   pcm-available counted missing =
-      let none : pcmFor own function ≡ 0 = ap (λ (m : Modes). m .pcm) (none-used (own .functions) function missing) in
+      let none : pcmFor own function ≡ 0 = pcm-used own function ∙ ap (λ (m : Modes). m .pcm) (none-used (own .functions) function missing) in
       omega (arith, counted, pcm-made own good heard ∙ ap (λ (n : ℕ). withItem1 (has jm 1) (paired (offerOf heard .pcm) n)) none ∙ no-pcm (has jm 1) (offerOf heard .pcm))
 
   -- and it pairs again
   jm-pairs : paired (offerOf heard .pcm) (offerOf jm .pcm) ≡ offerOf jm .pcm
   jm-pairs =
       subst (λ (n : ℕ). paired (offerOf heard .pcm) n ≡ n) (sym (pcm-made own good heard))
-      (pairs-again (offerOf heard .pcm) (pcmFor own function) (options-small heard) (good-modes own (good .good) function .pcm) (has jm 1))
+      (pairs-again (offerOf heard .pcm) (pcmFor own function) (options-small heard) (pcm-small own good function) (has jm 1))
 
   -- so the choice is not refused
   not-refused : (n : ℕ) → NotShared heard jm n → ⊥
@@ -156,11 +166,11 @@ module _ (own : Record) (good : AcceptedRecord own) (heard : List ℕ) (readable
 
 -- between two records
 module _ (caller answerer : Record) (function : ℕ) (call : Call caller answerer function) where
-  abbrev asks : Modes
-  asks = inUse caller function
+  abbrev asks : ℕ
+  asks = pcmFor caller function
 
-  abbrev answers : Modes
-  answers = inUse answerer function
+  abbrev answers : ℕ
+  answers = pcmFor answerer function
 
   abbrev sent : List ℕ
   sent = cmOf caller function
@@ -177,26 +187,26 @@ module _ (caller answerer : Record) (function : ℕ) (call : Call caller answere
   -- b5 and b6 that pair need no test of item 1: both ends have it
   item-1 : (own : Record) → AcceptedRecord own → 0 < pcmFor own function % 4 → hasFor own function 1 ≡ true
   unfolding inSet
-  item-1 own good some = has-used own function 1 ∙ eq-eqb (inUse own function .items / 2 ^ 1 % 2) 1 (good-modes own (good .good) function .item-1 (λ z. omega (arith, z, some)))
+  item-1 own good some = has-used own function 1 ∙ eq-eqb (inUse own function .items / 2 ^ 1 % 2) 1 (good-modes own (good .good) function .item-1 (λ z. omega (arith, z, some, pcm-used own function)))
 
-  crossed-item-1 : (paired (asks .pcm) (answers .pcm) % 4 ≡ 0 → ⊥) → both (hasFor caller function 1) (hasFor answerer function 1) ≡ true
+  crossed-item-1 : (paired asks answers % 4 ≡ 0 → ⊥) → both (hasFor caller function 1) (hasFor answerer function 1) ≡ true
   unfolding both
   crossed-item-1 some =
-      let ends = both-have (asks .pcm) (answers .pcm) (good-modes caller (call .calling .good) function .pcm) (good-modes answerer (call .answering .good) function .pcm) some in
+      let ends = both-have asks answers (pcm-small caller (call .calling) function) (pcm-small answerer (call .answering) function) some in
       simp (item-1 caller (call .calling) (ends .0), item-1 answerer (call .answering) (ends .1))
 
-  exact-by : (t low : Bool) → both (hasFor caller function 1) (hasFor answerer function 1) ≡ t → eqb (paired (asks .pcm) (answers .pcm) % 4) 0 ≡ low → withItem1 t (paired (asks .pcm) (answers .pcm)) ≡ paired (asks .pcm) (answers .pcm)
+  exact-by : (t low : Bool) → both (hasFor caller function 1) (hasFor answerer function 1) ≡ t → eqb (paired asks answers % 4) 0 ≡ low → withItem1 t (paired asks answers) ≡ paired asks answers
   unfolding when
   exact-by true low item-1-is crossed-is = refl
-  exact-by false true item-1-is crossed-is = omega (arith, eqb-true (paired (asks .pcm) (answers .pcm) % 4) 0 crossed-is)
+  exact-by false true item-1-is crossed-is = omega (arith, eqb-true (paired asks answers % 4) 0 crossed-is)
   exact-by false false item-1-is crossed-is = clash (sym (crossed-item-1 (eqb-false _ _ crossed-is)) ∙ item-1-is)
 
   -- the PCM options of the JM are those that pair
-  pcm-exact : offerOf answered .pcm ≡ paired (asks .pcm) (answers .pcm)
-  pcm-exact = pcm-from-records caller answerer function call ∙ exact-by (both (hasFor caller function 1) (hasFor answerer function 1)) (eqb (paired (asks .pcm) (answers .pcm) % 4) 0) refl refl
+  pcm-exact : offerOf answered .pcm ≡ paired asks answers
+  pcm-exact = pcm-from-records caller answerer function call ∙ exact-by (both (hasFor caller function 1) (hasFor answerer function 1)) (eqb (paired asks answers % 4) 0) refl refl
 
   -- PCM options that are chosen are those of the JM
-  pcm-named : (options : ℕ) → SharedPcm sent answered options → options ≡ paired (asks .pcm) (answers .pcm)
+  pcm-named : (options : ℕ) → SharedPcm sent answered options → options ≡ paired asks answers
   pcm-named options s =
       let bits = crosswise (offerOf sent .pcm) (offerOf answered .pcm) in
       by-bits options (paired (offerOf sent .pcm) (offerOf answered .pcm)) (s .high) (paired-small (offerOf sent .pcm) (offerOf answered .pcm)) (s .b5 ∙ sym (bits .0)) (s .b6 ∙ sym (bits .1)) (s .b7 ∙ sym (bits .2))

@@ -28,7 +28,7 @@ use Rattle.offers.specs.Offering.{cmOffer}
 use Rattle.offers.proofs.Meaning.{menu-readable}
 use Rattle.demands.specs.Joint.{cmOf, jmOf}
 use Rattle.demands.specs.OneChoice.{Call, NothingShared, callerNames, answererNames, BothNameOneChoice}
-use Rattle.demands.proofs.OneChoice.{choice-case, both-ends-name-one-choice}
+use Rattle.demands.proofs.OneChoice.{kindOf, choice-case, both-ends-name-one-choice}
 use Rattle.demands.specs.WholeCall.{carried, Due, inTime, InOrder, waiting, comes, lastTick, callerOrder, EndsJoint, byCj, bySigC, answererOrder, EndsWith, BothEndWith}
 
 -- an event that is answered "same" leaves the session as it is
@@ -227,13 +227,6 @@ module _ (start choice : ℕ) (okay : isChoice choice ≡ true) where
       let at-answering = stage (answererFrom start) (at answerer 0 answering 0 going) _ _ ts (answerer-start-is-in-range start) (λ now time. to-answering 0 choice start now (answerer-start-is-in-range start) time) order in
       let at-joint = stage (at answerer 0 answering 0 going (at-answering .now)) (at answerer 0 joint choice going) _ _ (at-answering .rest) (at-answering .inside) (λ now time. to-joint 0 choice (at-answering .now) now (at-answering .inside) okay time) (at-answering .order) in
       subst (EndsWith choice) (sym (at-answering .same ∙ at-joint .same)) (joint-ends (at-joint .now) last (at-joint .rest) closing (at-joint .inside) (at-joint .order))
-
--- what kind of choice it is
-abbrev pub kindOf : Chosen → ℕ
-kindOf none = 0
-kindOf (item i) = 1
-kindOf (pcm options) = 2
-kindOf (choosing.refusal n) = 3
 
 -- what a choice is carried with can be carried, is not "refused with 11", and is 0 for none alone
 abbrev fits : Chosen → Bool

@@ -1,9 +1,9 @@
 -- Demand 2: "The joint menu holds exactly the modes that both ends have for the call function." And what is made reads back as it was meant.
-use Prim.Native.Nat.{ℕ, _<_, _*_}
+use Prim.Native.Nat.{ℕ, zero, suc, _<_, _*_}
 use mathlib.Core.Path.{_≡_}
 use mathlib.Core.Bool.{Bool, false}
 use mathlib.Core.List.{List}
-use lib.ListN.{length}
+use lib.ListN.{length, getD}
 use lib.Dec.{ltb}
 use Rattle.laws.specs.Logic.{when, both, either}
 use Rattle.octets.specs.declared.Kind.the-variants.{Menu}
@@ -15,7 +15,8 @@ use Rattle.menus.specs.Groups.{groupOf}
 use Rattle.items.specs.Items.{modulation}
 use Rattle.menus.specs.Offer.{offerOf, offers, menuRead}
 use Rattle.records.specs.declared.Record.{Record}
-use Rattle.records.specs.Record.{flag, inUse, badRecord}
+use Rattle.records.specs.declared.Modes.{Modes}
+use Rattle.records.specs.Record.{flag, noModes, badRecord}
 use Rattle.offers.specs.Offering.{bit, accessOptions, cmAccess, cmOffer, jmOffer}
 use Rattle.menus.specs.Pcm.{analogue, digital, v91}
 use Rattle.offers.specs.Making.{menuOf}
@@ -37,13 +38,20 @@ jmOf own heard = menuOf (jmOffer own (offerOf heard))
 abbrev pub has : List ℕ → ℕ → Bool
 has menu i = hasItem (groupOf menu modulation) i
 
--- a record has an item for a function; "one not available has no modes"
-abbrev pub hasFor : Record → ℕ → ℕ → Bool
-hasFor own function i = both (flag (inUse own function .available)) (inSet (inUse own function .items) i)
+-- what a record has filled in for a function; those of a record are counted from 1, and any other is never available
+abbrev pub filledIn : Record → ℕ → Modes
+filledIn own zero = noModes
+filledIn own (suc n) = getD (own .functions) n noModes
 
--- the PCM options that a record has for a function
+abbrev pub isAvailable : Record → ℕ → Bool
+isAvailable own function = flag (filledIn own function .available)
+
+-- a record has an item for a function, and these PCM options: "one not available has no modes and no PCM, even where they are filled in"
+abbrev pub hasFor : Record → ℕ → ℕ → Bool
+hasFor own function i = both (isAvailable own function) (inSet (filledIn own function .items) i)
+
 abbrev pub pcmFor : Record → ℕ → ℕ
-pcmFor own function = inUse own function .pcm
+pcmFor own function = when (isAvailable own function) (filledIn own function .pcm) 0
 
 -- "exactly the modes that both ends have for the call function": items 1 to 12, and the pairings of PCM
 pub record HoldsWhatBothHave (own : Record) (heard : List ℕ) : Type 0 where
@@ -62,7 +70,7 @@ saysCellular caller function = both (cmAccess caller (pcmFor caller function)) (
 -- the JM of an answerer for the CM of a caller, from what both records have
 pub record HoldsWhatBothRecordsHave (caller answerer : Record) (function : ℕ) (jm : List ℕ) : Type 0 where
   -- "Function available: the same function", "Function not available: the home function"
-  pub named : offerOf jm .function ≡ when (flag (inUse answerer function .available)) function (answerer .home)
+  pub named : offerOf jm .function ≡ when (isAvailable answerer function) function (answerer .home)
   -- "items in both"
   pub items : (i : ℕ) → 0 < i → i < 13 → has jm i ≡ both (hasFor caller function i) (hasFor answerer function i)
   -- "PCM b5 if ours is analogue and theirs digital, b6 if ours is digital and theirs analogue, both only when item 1 is shared"

@@ -6,11 +6,10 @@ use mathlib.Core.Bool.{true, false}
 use mathlib.Core.List.{List}
 use Rattle.laws.specs.Logic.{both}
 use Rattle.records.specs.declared.Record.{Record}
-use Rattle.records.specs.Record.{inUse}
 use Rattle.menus.specs.Offer.{offerOf}
 use Rattle.menus.specs.Pcm.{v91, paired}
 use Rattle.choices.specs.Choosing.{Chosen, none, item, pcm, refusal, choiceOf}
-use Rattle.demands.specs.Joint.{AcceptedRecord, cmOf, jmOf, has, hasFor, pcmFor}
+use Rattle.demands.specs.Joint.{AcceptedRecord, cmOf, jmOf, has, isAvailable, hasFor, pcmFor}
 
 -- "no mode and no PCM pairing is shared for that function": no item from 1 to 12, and no PCM option that pairs
 pub record NothingShared (caller answerer : Record) (function : ℕ) : Type 0 where
@@ -29,7 +28,7 @@ pub record LowestOfBoth (caller answerer : Record) (function i : ℕ) : Type 0 w
 pub record Call (caller answerer : Record) (function : ℕ) : Type 0 where
   pub calling : AcceptedRecord caller
   pub answering : AcceptedRecord answerer
-  pub available : inUse caller function .available ≡ 1
+  pub available : isAvailable caller function ≡ true
 
 -- what the caller names: from the CM it sent and the JM it heard
 abbrev pub callerNames : Record → ℕ → List ℕ → Chosen
