@@ -19,11 +19,10 @@ use Rattle.octets.specs.declared.Purpose.the-variants.{Reading}
 use Rattle.octets.specs.Octets.{bad, category}
 use Rattle.octets.specs.Lists.{octetFault, firstFault, opens, mostOctets, listFault}
 use Rattle.choices.specs.Choosing.{Chosen, none, item, pcm, refusal, choiceOf}
-use Rattle.framing.specs.Framing.{report, tellCj, refusalAct, refusalIn}
-use Rattle.listening.specs.declared.Message.{Message}
+use Rattle.framing.specs.Framing.{report}
 use Rattle.listening.specs.declared.Listener.{Listener}
 use Rattle.listening.specs.Record as record-of
-use Rattle.listening.specs.Hearing.{Told, silence, ci, menu, cj, HearOutcome, ManyOutcome, agreed, reported, toldAlone, told, acted, refusedBit, heardIn, heardBit, taking, silent, listened, heardBits}
+use Rattle.listening.specs.Hearing.{Told, silence, ci, menu, cj, ManyOutcome, told, heardBit, heardBits}
 use Rattle.listening.specs.Hearing as hearing
 use Rattle.steps.specs.declared.Session.{Session}
 use Rattle.steps.specs.Table.{over, agreedJm, agreedCm}
@@ -39,7 +38,9 @@ use Rattle.codes.specs.Hearing.{toldCode}
 use Rattle.codes.proofs.Apart.{knownChoice, choice-code-injective, step-code-injective, knownReport, told-code-injective}
 use Rattle.demands.specs.WholeCall.{carried}
 use Rattle.demands.specs.Shared.{NotShared, cmUnread, jmUnread, itemMissing, nonePairs, Shared}
-use Rattle.demands.specs.Refusals.{oneOf}
+use Rattle.stretches.specs.Hearing.{onceHeard}
+use Rattle.demands.specs.Refusals.{oneOf, RefusedBitsLeaveWhatIsLaidDown}
+use Rattle.demands.proofs.Refusals.{refusals-leave-what-is-laid-down}
 use Rattle.demands.specs.Numbers.{choiceNumber, stepNumber, heardNumber, NumbersAreToldApart, asChosen, ChoicesAreHandedOver}
 use Rattle.demands.proofs.Shared.{choice-is-shared}
 
@@ -179,51 +180,36 @@ unfolding either
 refusal-of-bit zero listed = clash (sym listed)
 refusal-of-bit (suc n) listed = record { number = listed; known = lt-ltb 0 (suc n) (omega arith) }
 
-abbrev Tells : ℕ → Type 0
-Tells n = TellsReport (hearing.refusal n)
+abbrev numberTold : Told → ℕ
+numberTold silence = 0
+numberTold ci = 0
+numberTold (menu isAgreed) = 0
+numberTold cj = 0
+numberTold (hearing.refusal n) = n
 
--- those that a bit gives
-tells : (n : ℕ) → T (oneOf (1 ∷ 2 ∷ 3 ∷ 4 ∷ 10 ∷ 13 ∷ []) n) → Tells n
-tells n listed = refusal-of-bit n (is-so _ listed)
+told-tells : (t : Told) → ((n : ℕ) → t ≡ hearing.refusal n → Hears n) → TellsReport t
+told-tells silence listed = record { number = refl; known = refl }
+told-tells ci listed = record { number = refl; known = refl }
+told-tells (menu true) listed = record { number = refl; known = refl }
+told-tells (menu false) listed = record { number = refl; known = refl }
+told-tells cj listed = record { number = refl; known = refl }
+told-tells (hearing.refusal n) listed = refusal-of-bit n (listed n refl)
 
-act-tells : (act : ℕ) → TellsReport (hearing.refusal (refusalIn act))
-unfolding refusalIn either
-act-tells act =
-    either-way Tells (eqb act (refusalAct 1)) 1 _ (λ _. tells 1 tt)
-    (λ _. either-way Tells (eqb act (refusalAct 2)) 2 _ (λ _. tells 2 tt)
-    (λ _. either-way Tells (eqb act (refusalAct 3)) 3 _ (λ _. tells 3 tt)
-    (λ _. either-way Tells (eqb act (refusalAct 4)) 4 _ (λ _. tells 4 tt)
-    (λ _. either-way Tells (eqb act (refusalAct 10)) 10 13 (λ _. tells 10 tt) (λ _. tells 13 tt)))))
-
-menu-tells : (isAgreed : Bool) → TellsReport (menu isAgreed)
-menu-tells true = record { number = refl; known = refl }
-menu-tells false = record { number = refl; known = refl }
-
-told-tells : (act : ℕ) (m last : Message) → TellsReport (told act m last)
-unfolding told reported toldAlone
-told-tells act m last =
-    either-way TellsReport (eqb act report) _ _
-    (λ _. either-way TellsReport (eqb (m .kind) 1) ci (menu (agreed m last)) (λ _. record { number = refl; known = refl }) (λ _. menu-tells (agreed m last)))
-    (λ _. either-way TellsReport (ltb act report) silence _ (λ _. record { number = refl; known = refl })
-    (λ _. either-way TellsReport (eqb act tellCj) cj (hearing.refusal (refusalIn act)) (λ _. record { number = refl; known = refl }) (λ _. act-tells act)))
-
-bit-tells : (rec : Listener) (bit : ℕ) → TellsReport (heardIn rec bit .report)
-unfolding heardIn acted
-bit-tells rec bit = told-tells _ (rec .msg) (rec .last)
+-- demand 1 says which refusals a bit gives
+abbrev laid : RefusedBitsLeaveWhatIsLaidDown
+laid = refusals-leave-what-is-laid-down .bits
 
 heard-tells : (rec : Listener) (bit : ℕ) → TellsReport (heardBit rec bit .report)
-unfolding either
-heard-tells rec bit = either-way (λ (o : HearOutcome). TellsReport (o .report)) (record-of.inRange rec) (heardIn rec bit) (refusedBit 10 rec) (λ _. bit-tells rec bit) (λ _. tells 10 tt)
+heard-tells rec bit = told-tells (heardBit rec bit .report) (laid .numbers rec bit)
 
-listened-tells : (rec : Listener) (bits : List ℕ) (n : ℕ) → TellsReport (listened rec bits n .report)
-unfolding listened
-listened-tells rec [] n = record { number = refl; known = refl }
-listened-tells rec (bit ∷ bits) n =
-    either-way (λ (o : ManyOutcome). TellsReport (o .report)) (silent (heardIn rec bit .report)) _ _ (λ _. listened-tells (heardIn rec bit .rec) bits (n + 1)) (λ _. bit-tells rec bit)
+-- and many bits give that of one, or 10
+many-listed : (rec : Listener) (bits : List ℕ) (n : ℕ) (inside : Bool) → record-of.inRange rec ≡ inside → heardBits rec bits .report ≡ hearing.refusal n → Hears n
+unfolding either
+many-listed rec bits n true e told = let at = laid .many rec bits n e told in laid .numbers (onceHeard rec (at .before)) (at .bit) n (at .told)
+many-listed rec bits n false e told = rw (sym (ap numberTold (sym (ap (λ (o : ManyOutcome). o .report) (laid .manyOutside rec bits e)) ∙ told))) refl
 
 many-tells : (rec : Listener) (bits : List ℕ) → TellsReport (heardBits rec bits .report)
-unfolding either
-many-tells rec bits = either-way (λ (o : ManyOutcome). TellsReport (o .report)) (record-of.inRange rec) (listened rec bits 0) (taking (refusedBit 10 rec) 0) (λ _. listened-tells rec bits 0) (λ _. tells 10 tt)
+many-tells rec bits = told-tells (heardBits rec bits .report) (λ n. many-listed rec bits n (record-of.inRange rec) refl)
 
 pub numbers-are-told-apart : NumbersAreToldApart
 numbers-are-told-apart = record {

@@ -1,7 +1,7 @@
 -- What V.8 does not define, put into a menu at a group's end, changes nothing that the reader says: the first group of each tag of the table
 -- stays the same, or gets longer past what anyone looks at. What is made and chosen goes by what is read.
 -- Assumes nothing.
-use Prim.Native.Nat.{ℕ, _<_, _≤_, _+_}
+use Prim.Native.Nat.{ℕ, _<_, _≤_}
 use native.Mathlib.Omega.{arith}
 use mathlib.Core.Path.{_≡_, refl, sym, ap, ap₂, subst, _∙_}
 use mathlib.Core.Bool.{Bool, true, false, not}

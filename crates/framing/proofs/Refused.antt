@@ -2,7 +2,6 @@
 -- Assumes nothing.
 use Prim.Native.Nat.{ℕ, _≤_}
 use mathlib.Core.Path.{_≡_, sym, subst}
-use mathlib.Core.Bool.{true}
 use lib.Dec.{ltb, eqb, lit≤}
 use Rattle.laws.specs.Logic.{when, both}
 use Rattle.laws.proofs.Logic.{either-way}
@@ -10,7 +9,7 @@ use Rattle.octets.specs.declared.Kind.the-variants.{Ci, Menu}
 use Rattle.sequences.specs.Line.{tenOnes}
 use Rattle.framing.specs.declared.Ear.{Ear}
 use Rattle.framing.specs.declared.Turned.{Turned}
-use Rattle.framing.specs.Framing.{value, pushed, more, lastTen, hunting, inSync, tellCj, refusalAct, hunted, turned, stay, turnedBy}
+use Rattle.framing.specs.Framing.{value, lastTen, hunting, inSync, tellCj, refusalAct, hunted, turned, stay, turnedBy}
 use Rattle.framing.proofs.Places.{Places, hunts, inside-sync, accepts, passes-over, opens-octet, opens-end, inside-octet, stop-zero, stores, inside-end, reports, turning, Turns, tells-cj, is-placed, turned-as}
 use Rattle.framing.proofs.Places as placing
 
