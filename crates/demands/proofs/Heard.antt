@@ -21,7 +21,7 @@ use Rattle.stretches.proofs.Flags.{fresh-flags}
 use Rattle.stretches.proofs.Copies.{sent-read, copies-read, put-front}
 use Rattle.stretches.proofs.Heard.{are-bits, knows-heard, cj-told, cj-only}
 use Rattle.stretches.proofs.Led.{led-heard, reported-stands, ten-ends, ends-ten, ends-ones, octet-ends}
-use Rattle.stretches.proofs.Syncs.{sync-starts, other-sync, stays-readable, told-early}
+use Rattle.stretches.proofs.Syncs.{other-sync, stays-readable, told-early}
 use Rattle.stretches.proofs.Parts.{parts-told, parts-end}
 use Rattle.demands.specs.Heard.{AreBits, CjIsToldWhereItStands, AgreedIsTheMessageBefore, HoldsWhatWasHeard, ReportsStandOnTheLine, OtherSyncsArePassedOver, StoredOctetsStayReadable, PartsMakeNoDifference}
 
@@ -62,7 +62,6 @@ holds-what-was-heard bits tested =
       ones = ends-ones bits lows;
       octet = octet-ends bits lows;
       led = led-heard bits lows;
-      starts = sync-starts bits lows;
     }
 
 pub reports-stand-on-the-line : ReportsStandOnTheLine

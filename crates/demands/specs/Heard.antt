@@ -60,8 +60,6 @@ pub record HoldsWhatWasHeard (bits : List ℕ) : Type 0 where
   pub octet : (data′ : List ℕ) (stop : ℕ) → length data′ ≡ 8 → Ends (data′ ++ stop ∷ []) bits → octetOf (line bits .ear .past) ≡ value data′
   -- its place in the framing and its octets, by the bits that led there
   pub led : Led bits (line bits .msg) (line bits .ear .place)
-  -- "A 0 whose ten preceding heard bits are all 1 starts a sync."
-  pub starts : line bits .ear .place ≡ hunting → Ends tenOnes bits → heardBit (line bits) 0 .rec .ear .place ≡ inSync
 
 -- a message is reported only where it stands: ten 1s, its sync, its octets, and ten 1s
 pub record ReportsStandOnTheLine : Type 0 where

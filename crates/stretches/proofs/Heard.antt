@@ -128,7 +128,7 @@ module _ (sofar : List ℕ) (rec : Listener) (knows : Knows sofar rec) (bits-sof
   whole = each-append bits-sofar (also low none)
 
   -- the test says that the last thirty bits are CJ
-  ends-is-cj : Ends cjBits (sofar ++ bit ∷ []) → testsCj ≡ true
+  pub ends-is-cj : Ends cjBits (sofar ++ bit ∷ []) → testsCj ≡ true
   unfolding isCj both when
   ends-is-cj ends =
       let early : Bits (ends .0) = each-left (ends .0) cjBits (rw (ends .1) whole) in

@@ -9,6 +9,7 @@ pub mod Flags
 pub mod Heard
 pub mod Led
 pub mod Syncs
+pub mod Next
 pub mod Parts
 pub mod Copies
 pub mod Hunting

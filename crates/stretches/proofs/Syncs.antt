@@ -1,18 +1,19 @@
 -- A sync of another kind than ours is passed over, and stored octets stay until the next sync that is accepted. While a sync is heard the ten
 -- 1s before it stand among the last twenty bits, so these are no part of CJ.
 -- Assumes nothing.
-use Prim.Native.Nat.{ℕ, suc, _<_, _≤_, _+_}
+use Prim.Native.Nat.{ℕ, zero, suc, _<_, _≤_, _+_, _-_}
 use native.Mathlib.Omega.{arith}
 use mathlib.Core.Path.{_≡_, refl, sym, ap, _∙_}
 use mathlib.Core.Bool.{Bool, true, false}
 use mathlib.Core.List.{List, [], _∷_, _++_, append-assoc}
 use borrow.Author.Tests.{lt-ltb, le-ltb, ltb-true, ltb-false, eq-eqb, ne-eqb}
-use lib.Dec.{ltb, lit<}
-use lib.ListN.{length, drop, length-append, replicate}
-use lib.Seq.{drop-append-le, drop-append-add}
+use lib.Dec.{T, ltb, eqb, eqb→eq, lit<}
+use lib.ListN.{length, drop, getD, length-append, replicate}
+use lib.Seq.{drop-append-le, drop-append-add, getD-append-add}
 use Rattle.laws.specs.Logic.{when, both}
 use Rattle.laws.specs.Tests.{allBelow}
 use Rattle.laws.proofs.Logic.{clash}
+use Rattle.laws.proofs.Computed.{below}
 use Rattle.octets.specs.declared.Kind.{Kind}
 use Rattle.octets.specs.declared.Kind.the-variants.{Ci, Menu}
 use Rattle.sequences.specs.Line.{framed, framedAll, tenOnes, sync, cj}
@@ -42,16 +43,34 @@ no-tens : Nowhere tenOnes cj
 unfolding run when both allBelow cj framedAll framed
 no-tens = nowhere tenOnes tens tt cj 0 (lit< tt) (lit< tt)
 
--- so bits do not end in CJ and in ten 1s with up to twenty bits behind them
-not-both : (later bits : List ℕ) → length later ≤ 20 → Ends cj bits → Ends (tenOnes ++ later) bits → ⊥
-not-both later bits few e ones =
-    let size : length (e .0) ≤ length (ones .0) = omega (arith, ap length (e .1 ∙ sym (ones .1)), length-append (e .0) cj, length-append (ones .0) (tenOnes ++ later), length-append tenOnes later, cj-length) in
-    let rest : drop (length (e .0)) (ones .0 ++ (tenOnes ++ later)) ≡ drop (length (e .0)) (ones .0) ++ (tenOnes ++ later) = drop-append-le (length (e .0)) (ones .0) (tenOnes ++ later) size in
-    let behind : drop (length (e .0) + 0) (e .0 ++ cj) ≡ cj = drop-append-add (e .0) cj 0 in
+-- bits that end in CJ and in a shorter word: CJ ends in that word
+pub shorter-ends : (word bits : List ℕ) → length word ≤ 30 → Ends cj bits → Ends word bits → Ends word cj
+shorter-ends word bits few e there =
+    let size : length (e .0) ≤ length (there .0) = omega (arith, ap length (e .1 ∙ sym (there .1)), length-append (e .0) cj, length-append (there .0) word, cj-length) in
+    let rest : drop (length (e .0)) (there .0 ++ word) ≡ drop (length (e .0)) (there .0) ++ word = drop-append-le (length (e .0)) (there .0) word size in
     let none-more : length (e .0) ≡ length (e .0) + 0 = omega arith in
-    let same : drop (length (e .0)) (e .0 ++ cj) ≡ drop (length (e .0) + 0) (e .0 ++ cj) = ap (λ (n : ℕ). drop n (e .0 ++ cj)) none-more in
-    no-tens (drop (length (e .0)) (ones .0)) later
-    (append-assoc (drop (length (e .0)) (ones .0)) tenOnes later ∙ sym rest ∙ ap (drop (length (e .0))) (ones .1 ∙ sym (e .1)) ∙ same ∙ behind)
+    let behind : drop (length (e .0)) (e .0 ++ cj) ≡ cj = ap (λ (n : ℕ). drop n (e .0 ++ cj)) none-more ∙ drop-append-add (e .0) cj 0 in
+    (drop (length (e .0)) (there .0), sym rest ∙ ap (drop (length (e .0))) (there .1 ∙ sym (e .1)) ∙ behind)
+
+-- so they do not end in CJ and in ten 1s with up to twenty bits behind them
+pub not-both : (later bits : List ℕ) → length later ≤ 20 → Ends cj bits → Ends (tenOnes ++ later) bits → ⊥
+not-both later bits few e ones =
+    let inside = shorter-ends (tenOnes ++ later) bits (omega (arith, length-append tenOnes later)) e ones in
+    no-tens (inside .0) later (append-assoc (inside .0) tenOnes later ∙ inside .1)
+
+-- nor in CJ and in a 1 with one to nine bits behind it
+pub not-behind-one : (later bits : List ℕ) → 0 < length later → length later < 10 → Ends cj bits → Ends (1 ∷ later) bits → ⊥
+unfolding allBelow both cj framedAll framed
+not-behind-one later bits some few e one =
+    let inside = shorter-ends (1 ∷ later) bits (omega arith) e one in
+    let at : length (inside .0) + 0 ≡ 29 - length later = omega (arith, ap length (inside .1), length-append (inside .0) (1 ∷ later), cj-length) in
+    let is-one : getD cj (29 - length later) 0 ≡ 1 = ap (λ (n : ℕ). getD cj n 0) (sym at) ∙ ap (λ (l : List ℕ). getD l (length (inside .0) + 0) 0) (sym (inside .1)) ∙ getD-append-add (inside .0) (1 ∷ later) 0 0 in
+    let is-zero : getD cj (29 - length later) 0 ≡ 0 = eqb→eq _ _ (implied-below (length later) some few) in
+    omega (arith, sym is-one ∙ is-zero)
+  where
+    implied-below : (n : ℕ) → 0 < n → n < 10 → T (eqb (getD cj (29 - n) 0) 0)
+    implied-below zero low high = absurd (omega arith)
+    implied-below (suc n) low high = below (λ (k : ℕ). eqb (getD cj (29 - suc k) 0) 0) 9 tt n (omega arith)
 
 -- a bit that does nothing but lead to another place
 module _ (rec : Listener) (range : inRange rec ≡ true) (bit : ℕ) (low : bit < 2) where
@@ -88,7 +107,7 @@ module _ (place before past len bit : ℕ) where
   unfolding placed hunted when both
   placed-first at is-zero ones = simp (at, is-zero, eq-eqb _ _ ones)
 
-  placed-inside : 0 < place → place < lastOfSync → placed place before past len bit ≡ go (place + 1) nothing
+  pub placed-inside : 0 < place → place < lastOfSync → placed place before past len bit ≡ go (place + 1) nothing
   unfolding placed when
   placed-inside some few = simp (ne-eqb place 0 (λ e. omega (arith, e)), lt-ltb place lastOfSync few)
 
@@ -151,10 +170,6 @@ module _ (sofar : List ℕ) (bits-sofar : Bits sofar) (at : onceHeard fresh sofa
   first-bit =
       moves rec (knows .range) 0 (lit< tt) inSync (no-cj-there sofar rec knows bits-sofar 0 (lit< tt) (λ e. not-both (0 ∷ []) (sofar ++ 0 ∷ []) (omega arith) e started))
       (placed-first (rec .ear .place) _ _ _ 0 at refl (ten-ends sofar bits-sofar tenOnes refl ones))
-
-  -- "A 0 whose ten preceding heard bits are all 1 starts a sync."
-  pub sync-starts : heardBit (onceHeard fresh sofar) 0 .rec .ear .place ≡ inSync
-  sync-starts = first-bit .place
 
   -- "Any other sync is passed over and hunting resumes."
   pub other-sync : (later : List ℕ) → Bits later → length later ≡ lastOfSync → ((kind : Kind) → 0 ∷ later ≡ sync kind → ⊥) → PassedOver (onceHeard fresh sofar) (0 ∷ later)

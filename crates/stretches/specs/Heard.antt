@@ -9,7 +9,7 @@ use Rattle.sequences.specs.Line.{tenOnes, sequence}
 use Rattle.framing.specs.Framing.{hunting, inSync, lastOfSync, boundary, inOctet, endingOnes}
 use Rattle.listening.specs.declared.Message.{Message}
 use Rattle.listening.specs.declared.Listener.{Listener}
-use Rattle.listening.specs.Hearing.{octetsOf, heardBit}
+use Rattle.listening.specs.Hearing.{Told, octetsOf, heardBit}
 use Rattle.stretches.specs.Stretch.{Ends}
 use Rattle.stretches.specs.Hearing.{onceHeard, reports}
 
@@ -34,6 +34,12 @@ pub data Led (bits : List ℕ) (m : Message) (place : ℕ) : Type 0 where
   fills : (kind : Kind) (data′ : List ℕ) → IsOf kind m → length data′ < 9 → Ends (sequence kind (octetsOf m) ++ 0 ∷ data′) bits → place ≡ inOctet + length data′ → Led bits m place
   -- ".. and 1 ends the sequence": 1s "in a row, counted from the boundary"
   ends : (kind : Kind) (n : ℕ) → IsOf kind m → n < 9 → Ends (sequence kind (octetsOf m) ++ 1 ∷ replicate n 1) bits → place ≡ endingOnes + n → Led bits m place
+
+-- what a bit brings: what it tells, the place behind it, and the message that is held there
+pub record Brings (rec : Listener) (bit : ℕ) (t : Told) (next : ℕ) (m : Message) : Type 0 where
+  pub told : heardBit rec bit .report ≡ t
+  pub place : heardBit rec bit .rec .ear .place ≡ next
+  pub msg : heardBit rec bit .rec .msg ≡ m
 
 -- bits that are "passed over": nothing is told, "hunting resumes", and both messages stay
 pub record PassedOver (rec : Listener) (bits : List ℕ) : Type 0 where
