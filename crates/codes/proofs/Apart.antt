@@ -1,5 +1,5 @@
--- No two choices, answers or reports share a number: each is found again from its number, where an item is one from 1 to 12, PCM options are
--- some, an answer is one that a step can give, and a refusal has a number.
+-- No two choices, answers, reports or places share a number: each is found again from its number, where an item is one from 1 to 12, PCM options
+-- are some, an answer is one that a step can give, a place is below 64, and a refusal has a number.
 -- Assumes nothing.
 use Prim.Native.Nat.{zero, suc, _+_, _-_}
 use native.Mathlib.Omega.{arith}
@@ -18,9 +18,12 @@ use Rattle.steps.proofs.Ticks.{between-true}
 use Rattle.steps.proofs.Answers.{possibleAnswer}
 use Rattle.listening.specs.Hearing.{Told, silence, ci, menu, cj}
 use Rattle.listening.specs.Hearing as hearing
+use Rattle.menus.specs.Groups.{Looked, place, nowhere}
+use Rattle.menus.specs.Groups as looking
 use Rattle.codes.specs.Choosing.{choiceCode}
 use Rattle.codes.specs.Steps.{stepCode}
 use Rattle.codes.specs.Hearing.{toldCode}
+use Rattle.codes.specs.Reading.{lookedCode}
 
 -- a choice that is known by its number
 abbrev pub knownChoice : Chosen → Bool
@@ -92,3 +95,23 @@ report-back (hearing.refusal (suc n)) known = refl
 
 pub told-code-injective : (t u : Told) → knownReport t ≡ true → knownReport u ≡ true → toldCode t ≡ toldCode u → t ≡ u
 told-code-injective t u p q e = sym (report-back t p) ∙ ap reportFrom e ∙ report-back u q
+
+-- and what looking answers
+abbrev pub knownPlace : Looked → Bool
+knownPlace (place n) = ltb n 64
+knownPlace nowhere = true
+knownPlace (looking.refusal n) = ltb 0 n
+
+abbrev placeFrom : ℤ → Looked
+placeFrom (pos n) = when (ltb n 64) (place n) nowhere
+placeFrom (negsuc n) = looking.refusal (suc n)
+
+place-back : (l : Looked) → knownPlace l ≡ true → placeFrom (lookedCode l) ≡ l
+unfolding when
+place-back (place n) known = simp known
+place-back nowhere known = refl
+place-back (looking.refusal zero) known = clash (sym known)
+place-back (looking.refusal (suc n)) known = refl
+
+pub looked-code-injective : (l k : Looked) → knownPlace l ≡ true → knownPlace k ≡ true → lookedCode l ≡ lookedCode k → l ≡ k
+looked-code-injective l k p q e = sym (place-back l p) ∙ ap placeFrom e ∙ place-back k q

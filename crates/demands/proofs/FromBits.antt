@@ -24,12 +24,13 @@ use Rattle.menus.specs.declared.Offer.{Offer}
 use Rattle.menus.specs.Offer.{pcmTag, protocol, lapmOption, access, offerOf}
 use Rattle.refusals.specs.Refusals.{before}
 use Rattle.refusals.specs.Lent.{count, WriteOutcome, roomFault, put}
+use Rattle.refusals.proofs.Outcomes.{counted}
 use Rattle.sequences.specs.Line.{tenOnes, sequence, copies}
 use Rattle.sequences.specs.Writing.{written}
 use Rattle.listening.specs.Record.{fresh}
 use Rattle.stretches.specs.Stretch.{octetsAll}
 use Rattle.stretches.specs.Hearing.{message, reports, repeated}
-use Rattle.stretches.proofs.Copies.{put-front, copies-read, buffer-read}
+use Rattle.stretches.proofs.Copies.{copies-read, buffer-read}
 use Rattle.records.specs.declared.Record.{Record}
 use Rattle.offers.specs.Offering.{cmOffer, jmOffer}
 use Rattle.offers.specs.Making.{oneOctet, modulationGroup, menuOf}
@@ -76,7 +77,7 @@ menu-small offer =
 
 -- what is made stands in its buffer
 made-as : (f : ℕ) (menu lent octets : List ℕ) → Makes (put f menu lent) octets → octets ≡ menu
-made-as f menu lent octets makes = sym (makes .stands) ∙ put-front f menu lent (makes .size) (makes .told) .1
+made-as f menu lent octets makes = sym (makes .stands) ∙ counted f menu lent (makes .size) (makes .told) .stands
 
 -- and what is sent of it is heard, agreed from the second copy on
 heard-copies : (octets bits : List ℕ) → octetsAll octets ≡ true → (sends : Sends octets bits) → reports fresh bits ≡ repeated Menu octets (sends .copies)
@@ -124,7 +125,7 @@ makes-it : (f : ℕ) (menu : List ℕ) → f ≡ 0 → Makes (put f menu menu) m
 makes-it f menu none =
     let is = put-fine f menu menu none in
     let told : put f menu menu .answer ≡ count (length menu) = ap (λ (o : WriteOutcome). o .answer) is in
-    record { size = length menu; told = told; stands = put-front f menu menu (length menu) told .1 }
+    record { size = length menu; told = told; stands = counted f menu menu (length menu) told .stands }
 
 sends-it : (octets : List ℕ) → listFault (Writing Menu) octets ≡ 0 → Sends octets (copies 2 (sequence Menu octets) ++ tenOnes)
 unfolding when
@@ -133,7 +134,7 @@ sends-it octets fine =
     let f = before (listFault (Writing Menu) octets) (roomFault line line) in
     let is = put-fine f line line (simp (fine, room-there line)) in
     let told : written Menu octets 2 line .answer ≡ count (length line) = ap (λ (o : WriteOutcome). o .answer) is in
-    record { copies = 2; two = omega arith; lent = line; size = length line; told = told; stands = ap (λ (l : List ℕ). l ++ tenOnes) (put-front f line line (length line) told .1) }
+    record { copies = 2; two = omega arith; lent = line; size = length line; told = told; stands = ap (λ (l : List ℕ). l ++ tenOnes) (counted f line line (length line) told .stands) }
 
 agrees-it : (octets : List ℕ) → octetsAll octets ≡ true → listFault (Writing Menu) octets ≡ 0 → Agreed octets (reports fresh (copies 2 (sequence Menu octets) ++ tenOnes))
 agrees-it octets small fine = rw (copies-read Menu octets (record { octet = small; taken = fine }) 2) (later here)

@@ -12,13 +12,14 @@ use Rattle.octets.specs.declared.Kind.{Kind}
 use Rattle.octets.specs.declared.Kind.the-variants.{Ci, Menu}
 use Rattle.octets.specs.Lists.{firstFault}
 use Rattle.refusals.specs.Lent.{count, roomFault}
+use Rattle.refusals.proofs.Outcomes.{counted}
 use Rattle.sequences.specs.Line.{framed, framedAll, sync, v92Sync}
 use Rattle.sequences.specs.Line.{cj as cjBits}
 use Rattle.listening.proofs.Ranges.{range-fits}
 use Rattle.stretches.specs.Stretch.{bitsAll, AcceptedMessage}
 use Rattle.stretches.proofs.Each.{none, more, each-append, each-left, each-right, Bits, bits-by}
 use Rattle.stretches.proofs.Flags.{fresh-flags}
-use Rattle.stretches.proofs.Copies.{sent-read, copies-read, put-front}
+use Rattle.stretches.proofs.Copies.{sent-read, copies-read}
 use Rattle.stretches.proofs.Heard.{are-bits, knows-heard, cj-told, cj-only}
 use Rattle.stretches.proofs.Led.{led-heard, reported-stands, ten-ends, ends-ten, ends-ones, octet-ends}
 use Rattle.stretches.proofs.Syncs.{other-sync, stays-readable, told-early}
@@ -44,7 +45,7 @@ cj-is-told-where-it-stands = record {
   told = λ bits bit tested ends. cj-told bits (early-bits bits bit tested) bit (last-bit bits bit (are-bits (bits ++ bit ∷ []) tested)) ends;
   only = λ bits bit tested told. cj-only bits (early-bits bits bit tested) bit (last-bit bits bit (are-bits (bits ++ bit ∷ []) tested)) told;
   written = λ bits out size tested wrote first last is.
-      let stands : first ++ last ∷ [] ≡ cjBits = is ∙ put-front (roomFault cjBits out) cjBits out size wrote .1 in
+      let stands : first ++ last ∷ [] ≡ cjBits = is ∙ counted (roomFault cjBits out) cjBits out size wrote .stands in
       let whole : Bits (first ++ last ∷ []) = rw stands cj-bits in
       cj-told (bits ++ first) (each-append (are-bits bits tested) (each-left first (last ∷ []) whole)) last (last-bit first last whole) (bits, sym (append-assoc bits first (last ∷ []) ∙ ap (λ (l : List ℕ). bits ++ l) stands));
 }

@@ -1,7 +1,7 @@
 -- Every number that comes is one that the header lists, by the cases of each answer and tests computed over the few numbers there are; what
 -- can come is known by its number, so no two share one. And a choice goes to its number and back.
 -- Assumes nothing.
-use Prim.Native.Nat.{ℕ, zero, suc, _<_, _+_}
+use Prim.Native.Nat.{ℕ, zero, suc, _<_, _≤_, _+_}
 use native.Mathlib.Omega.{arith}
 use mathlib.Core.Path.{_≡_, refl, sym, ap, _∙_}
 use mathlib.Core.Bool.{Bool, true, false}
@@ -18,6 +18,16 @@ use Rattle.laws.proofs.Computed.{below}
 use Rattle.octets.specs.declared.Purpose.the-variants.{Reading}
 use Rattle.octets.specs.Octets.{bad, category}
 use Rattle.octets.specs.Lists.{octetFault, firstFault, opens, mostOctets, listFault}
+use Rattle.octets.proofs.Lists.{accepted-short}
+use Rattle.refusals.specs.Lent.{count, put}
+use Rattle.refusals.proofs.Outcomes.{counted}
+use Rattle.menus.specs.declared.Offer.{Offer}
+use Rattle.menus.specs.Groups.{Looked, place, opensGroup, firstGroup, looked}
+use Rattle.menus.specs.Groups as looking
+use Rattle.menus.specs.Offer.{offerOf}
+use Rattle.offers.specs.Offering.{cmOffer, jmOffer}
+use Rattle.offers.specs.Making.{menuOf}
+use Rattle.offers.proofs.Making.{menu-length, menu-short}
 use Rattle.choices.specs.Choosing.{Chosen, none, item, pcm, refusal, choiceOf}
 use Rattle.framing.specs.Framing.{report}
 use Rattle.listening.specs.declared.Listener.{Listener}
@@ -35,13 +45,14 @@ use Rattle.steps.proofs.Answers.{possibleAnswer, answer-is-possible}
 use Rattle.codes.specs.Choosing.{choiceCode}
 use Rattle.codes.specs.Steps.{nothingCarried, stepCode}
 use Rattle.codes.specs.Hearing.{toldCode}
-use Rattle.codes.proofs.Apart.{knownChoice, choice-code-injective, step-code-injective, knownReport, told-code-injective}
+use Rattle.codes.specs.Reading.{lookedCode}
+use Rattle.codes.proofs.Apart.{knownChoice, choice-code-injective, step-code-injective, knownReport, told-code-injective, knownPlace, looked-code-injective}
 use Rattle.demands.specs.WholeCall.{carried}
 use Rattle.demands.specs.Shared.{NotShared, cmUnread, jmUnread, itemMissing, nonePairs, Shared}
 use Rattle.stretches.specs.Hearing.{onceHeard}
 use Rattle.demands.specs.Refusals.{oneOf, RefusedBitsLeaveWhatIsLaidDown}
 use Rattle.demands.proofs.Refusals.{refusals-leave-what-is-laid-down}
-use Rattle.demands.specs.Numbers.{choiceNumber, stepNumber, heardNumber, NumbersAreToldApart, asChosen, ChoicesAreHandedOver}
+use Rattle.demands.specs.Numbers.{choiceNumber, stepNumber, heardNumber, placeNumber, NumbersAreToldApart, asChosen, ChoicesAreHandedOver}
 use Rattle.demands.proofs.Shared.{choice-is-shared}
 
 -- what is computed of every number below a limit, where a test holds
@@ -53,36 +64,23 @@ unfolding both
 in-range low high n from to = simp (le-leb low n (omega (arith, from)), le-leb n high (omega (arith, to)))
 
 -- reading refuses with 3, 4 or 5
-abbrev Reads : ℕ → Type 0
-Reads n = oneOf (0 ∷ 3 ∷ 4 ∷ 5 ∷ 11 ∷ []) n ≡ true
-
-reads-0 : Reads 0
-unfolding either
-reads-0 = refl
-
-reads-3 : Reads 3
-unfolding either
-reads-3 = refl
-
-reads-4 : Reads 4
-unfolding either
-reads-4 = refl
-
-reads-5 : Reads 5
-unfolding either
-reads-5 = refl
+data Reads : ℕ → Type 0 where
+  accepted : Reads 0
+  bad-octet : Reads 3
+  too-many : Reads 4
+  no-function : Reads 5
 
 octets-read : (octets : List ℕ) → Reads (firstFault Reading octets)
 unfolding firstFault
-octets-read [] = reads-0
+octets-read [] = accepted
 octets-read (b ∷ bs) =
     either-way Reads (eqb (octetFault Reading b) 0) (firstFault Reading bs) (octetFault Reading b) (λ _. octets-read bs)
-    (λ _. either-way Reads (bad b) 3 (when (category b) 0 0) (λ _. reads-3) (λ _. either-way Reads (category b) 0 0 (λ _. reads-0) (λ _. reads-0)))
+    (λ _. either-way Reads (bad b) 3 (when (category b) 0 0) (λ _. bad-octet) (λ _. either-way Reads (category b) 0 0 (λ _. accepted) (λ _. accepted)))
 
 list-read : (octets : List ℕ) → Reads (listFault Reading octets)
 list-read octets =
-    either-way Reads (ltb mostOctets (length octets)) 4 (when (opens octets) (firstFault Reading (drop 1 octets)) 5) (λ _. reads-4)
-    (λ _. either-way Reads (opens octets) (firstFault Reading (drop 1 octets)) 5 (λ _. octets-read (drop 1 octets)) (λ _. reads-5))
+    either-way Reads (ltb mostOctets (length octets)) 4 (when (opens octets) (firstFault Reading (drop 1 octets)) 5) (λ _. too-many)
+    (λ _. either-way Reads (opens octets) (firstFault Reading (drop 1 octets)) 5 (λ _. octets-read (drop 1 octets)) (λ _. no-function))
 
 -- a choice: its number is listed, and known, and carried as the choice
 record TellsChoice (c : Chosen) : Type 0 where
@@ -90,23 +88,16 @@ record TellsChoice (c : Chosen) : Type 0 where
   known : knownChoice c ≡ true
   handed : carried c ≡ asChosen c
 
--- refusal 11 is the tenth below -1
-by-11 : (t : Bool) (n : ℕ) → eqb n 10 ≡ t → t ≡ eqb (suc n) 11
-by-11 true n is = sym (eq-eqb (suc n) 11 (ap suc (eqb-true n 10 is)))
-by-11 false n is = sym (ne-eqb (suc n) 11 (λ e. eqb-false n 10 is (omega (arith, e))))
-
-tells-refusal : (n : ℕ) → Reads n → (n ≡ 0 → ⊥) → TellsChoice (refusal n)
-unfolding either
-tells-refusal zero reads some = absurd (some refl)
-tells-refusal (suc n) reads some = record {
-  number = either-right (eqb (suc n) 0) (oneOf (3 ∷ 4 ∷ 5 ∷ 11 ∷ []) (suc n)) reads (ne-eqb (suc n) 0 (λ z. omega (arith, z)));
-  known = lt-ltb 0 (suc n) (omega arith);
-  handed = ap (λ (t : Bool). when t refusedWith11 nothingCarried) (by-11 (eqb n 10) n refl);
-}
+tells-refusal : {n : ℕ} → Reads n → (n ≡ 0 → ⊥) → TellsChoice (refusal n)
+unfolding either when
+tells-refusal accepted some = absurd (some refl)
+tells-refusal bad-octet some = record { number = refl; known = refl; handed = refl }
+tells-refusal too-many some = record { number = refl; known = refl; handed = refl }
+tells-refusal no-function some = record { number = refl; known = refl; handed = refl }
 
 tells-11 : TellsChoice (refusal 11)
-unfolding either
-tells-11 = tells-refusal 11 refl (λ z. omega (arith, z))
+unfolding either when
+tells-11 = record { number = refl; known = refl; handed = refl }
 
 tells-none : TellsChoice none
 unfolding when either
@@ -128,8 +119,8 @@ tells-pcm options low high = record {
 
 module _ (cm jm : List ℕ) where
   refusal-tells : (n : ℕ) → NotShared cm jm n → TellsChoice (refusal n)
-  refusal-tells n (cmUnread bad) = tells-refusal (listFault Reading cm) (list-read cm) bad
-  refusal-tells n (jmUnread _ bad) = tells-refusal (listFault Reading jm) (list-read jm) bad
+  refusal-tells n (cmUnread unread) = tells-refusal (list-read cm) unread
+  refusal-tells n (jmUnread _ unread) = tells-refusal (list-read jm) unread
   refusal-tells n (itemMissing _ _ _ _) = tells-11
   refusal-tells n (nonePairs _ _ _) = tells-11
 
@@ -166,6 +157,39 @@ answer-number (goOn choice) possible = among isMode (λ n. stepNumber (pos (32 +
 answer-number (stepping.refusal n) possible =
     let ends = between-true 7 10 n possible in
     refusal-of-step n (among (between 7 10) (oneOf (7 ∷ 8 ∷ 9 ∷ 10 ∷ [])) 11 tt n (omega (arith, ends .1)) possible)
+
+-- what looking answers
+record TellsPlace (l : Looked) : Type 0 where
+  number : placeNumber (lookedCode l) ≡ true
+  known : knownPlace l ≡ true
+
+place-tells : (n : ℕ) → n < 64 → TellsPlace (place n)
+place-tells n low = record { number = le-leb n 64 (omega arith); known = lt-ltb n 64 low }
+
+first-tells : (t i : ℕ) (octets : List ℕ) → i + length octets ≤ 64 → TellsPlace (firstGroup t i octets)
+unfolding firstGroup
+first-tells t i [] room = record { number = refl; known = refl }
+first-tells t i (b ∷ bs) room = either-way TellsPlace (opensGroup t b) (place i) (firstGroup t (i + 1) bs) (λ _. place-tells i (omega arith)) (λ _. first-tells t (i + 1) bs (omega arith))
+
+unread-tells : {n : ℕ} → Reads n → (n ≡ 0 → ⊥) → TellsPlace (looking.refusal n)
+unfolding either
+unread-tells accepted some = absurd (some refl)
+unread-tells bad-octet some = record { number = refl; known = refl }
+unread-tells too-many some = record { number = refl; known = refl }
+unread-tells no-function some = record { number = refl; known = refl }
+
+looked-tells : (octets : List ℕ) (t : ℕ) → TellsPlace (looked octets t)
+unfolding looked
+looked-tells octets t =
+    either-way TellsPlace (eqb (listFault Reading octets) 0) (firstGroup t 0 octets) (looking.refusal (listFault Reading octets))
+    (λ fine. first-tells t 0 octets (omega (arith, accepted-short Reading octets (eqb-true (listFault Reading octets) 0 fine))))
+    (λ refused. unread-tells (list-read octets) (eqb-false (listFault Reading octets) 0 refused))
+
+-- a menu that is made has four octets, and up to three more
+menu-size : (f : ℕ) (offer : Offer) (out : List ℕ) (size : ℕ) → put f (menuOf offer) out .answer ≡ count size → between 4 7 size ≡ true
+menu-size f offer out size told =
+    let is : size ≡ length (menuOf offer) = counted f (menuOf offer) out size told .all in
+    in-range 4 7 size (omega (arith, is, menu-length offer)) (omega (arith, is, menu-short offer))
 
 -- what a bit reports
 record TellsReport (t : Told) : Type 0 where
@@ -220,6 +244,10 @@ numbers-are-told-apart = record {
   reports = λ rec bit. heard-tells rec bit .number;
   reportsApart = λ rec rec′ bit bit′ e. told-code-injective _ _ (heard-tells rec bit .known) (heard-tells rec′ bit′ .known) e;
   manyReports = λ rec bits. many-tells rec bits .number;
+  places = λ octets t. looked-tells octets t .number;
+  placesApart = λ octets octets′ t t′ e. looked-code-injective _ _ (looked-tells octets t .known) (looked-tells octets′ t′ .known) e;
+  cmSize = λ own function out size told. menu-size _ (cmOffer own function) out size told;
+  jmSize = λ own heard out size told. menu-size _ (jmOffer own (offerOf heard)) out size told;
   manyReportsApart = λ rec rec′ bits bits′ e. told-code-injective _ _ (many-tells rec bits .known) (many-tells rec′ bits′ .known) e;
 }
 

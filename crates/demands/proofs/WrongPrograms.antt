@@ -17,6 +17,7 @@ use Rattle.octets.specs.declared.Purpose.the-variants.{Reading, Writing}
 use Rattle.octets.specs.Lists.{firstFault, listFault, untilCategory}
 use Rattle.refusals.specs.Refusals.{before}
 use Rattle.refusals.specs.Lent.{Said, count, refusal, roomFault, put}
+use Rattle.refusals.proofs.Outcomes.{counted}
 use Rattle.sequences.specs.Line.{framed, framedAll, tenOnes, sequence, copies}
 use Rattle.sequences.specs.Line.{cj as cjBits}
 use Rattle.sequences.specs.Writing.{written, writtenCj}
@@ -93,23 +94,8 @@ analogueMenu = 0xC1 ∷ 0x65 ∷ 0x10 ∷ 0x10 ∷ 0x27 ∷ 0x0D ∷ []
 abbrev digitalMenu : List ℕ
 digitalMenu = 0xC1 ∷ 0x65 ∷ 0x10 ∷ 0x10 ∷ 0x47 ∷ 0x8D ∷ []
 
--- what was counted, one more; 0 for a refusal
-abbrev countSaid : Said → ℕ
-countSaid (count n) = suc n
-countSaid (refusal n) = 0
-
 put-counts : (f : ℕ) (new out : List ℕ) → CountsWhatItWrote new (put f new out)
-unfolding put
-put-counts f new out =
-    either-way (CountsWhatItWrote new) (eqb f 0) _ (record { answer = refusal f; buffer = out })
-    (λ _. record {
-      counted = λ size said. omega (arith, ap countSaid said);
-      stands = λ size said. take-at new (drop (length new) out) size (omega (arith, ap countSaid said));
-    })
-    (λ _. record {
-      counted = λ size said. absurd (let z : ⊥ = omega (arith, ap countSaid said) in z);
-      stands = λ size said. absurd (let z : ⊥ = omega (arith, ap countSaid said) in z);
-    })
+put-counts f new out = record { counted = λ size said. counted f new out size said .all; stands = λ size said. counted f new out size said .stands }
 
 written-counts : (kind : Kind) (octets : List ℕ) (n : ℕ) (out : List ℕ) → CountsWhatItWrote (copies n (sequence kind octets)) (written kind octets n out)
 written-counts kind octets n out = let line = copies n (sequence kind octets) in put-counts (before (listFault (Writing kind) octets) (roomFault line out)) line out

@@ -14,6 +14,11 @@ use Rattle.steps.specs.declared.Session.{Session}
 use Rattle.steps.specs.Table.{over, agreedJm, agreedCm}
 use Rattle.steps.specs.Session.{between, isChoice, inRange}
 use Rattle.steps.specs.Stepping.{refusedWith11, refusedStep, stepped}
+use Rattle.refusals.specs.Lent.{count}
+use Rattle.menus.specs.Groups.{looked}
+use Rattle.records.specs.declared.Record.{Record}
+use Rattle.offers.specs.Making.{madeCm, madeJm}
+use Rattle.codes.specs.Reading.{lookedCode}
 use Rattle.codes.specs.Choosing.{choiceCode}
 use Rattle.codes.specs.Steps.{nothingCarried, stepCode}
 use Rattle.codes.specs.Hearing.{toldCode}
@@ -36,6 +41,11 @@ abbrev pub heardNumber : ℤ → Bool
 heardNumber (pos n) = leb n 4
 heardNumber (negsuc n) = oneOf (1 ∷ 2 ∷ 3 ∷ 4 ∷ 10 ∷ 13 ∷ []) (suc n)
 
+-- `tailsprig_find`: 0 to 63 for a place, 64 for nowhere; refusals 4, 5 and 3
+abbrev pub placeNumber : ℤ → Bool
+placeNumber (pos n) = leb n 64
+placeNumber (negsuc n) = oneOf (3 ∷ 4 ∷ 5 ∷ []) (suc n)
+
 -- no other numbers come, and no two answers share one
 pub record NumbersAreToldApart : Type 0 where
   pub choices : (cm jm : List ℕ) → choiceNumber (choiceCode (choiceOf cm jm)) ≡ true
@@ -47,6 +57,11 @@ pub record NumbersAreToldApart : Type 0 where
   pub reportsApart : (rec rec′ : Listener) (bit bit′ : ℕ) → toldCode (heardBit rec bit .report) ≡ toldCode (heardBit rec′ bit′ .report) → heardBit rec bit .report ≡ heardBit rec′ bit′ .report
   pub manyReports : (rec : Listener) (bits : List ℕ) → heardNumber (toldCode (heardBits rec bits .report)) ≡ true
   pub manyReportsApart : (rec rec′ : Listener) (bits bits′ : List ℕ) → toldCode (heardBits rec bits .report) ≡ toldCode (heardBits rec′ bits′ .report) → heardBits rec bits .report ≡ heardBits rec′ bits′ .report
+  pub places : (octets : List ℕ) (t : ℕ) → placeNumber (lookedCode (looked octets t)) ≡ true
+  pub placesApart : (octets octets′ : List ℕ) (t t′ : ℕ) → lookedCode (looked octets t) ≡ lookedCode (looked octets′ t′) → looked octets t ≡ looked octets′ t′
+  -- `tailsprig_cm` and `tailsprig_jm`: 4 to 7 octets
+  pub cmSize : (own : Record) (function : ℕ) (out : List ℕ) (size : ℕ) → madeCm own function out .answer ≡ count size → between 4 7 size ≡ true
+  pub jmSize : (own : Record) (heard out : List ℕ) (size : ℕ) → madeJm own heard out .answer ≡ count size → between 4 7 size ≡ true
 
 -- "Agreed CM and agreed JM carry the choice: none, an item, or PCM options, for JM also 'refused with 11'."
 abbrev pub asChosen : Chosen → ℕ

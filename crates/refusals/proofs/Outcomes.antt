@@ -1,13 +1,17 @@
 -- What is laid down for a call that writes, by which test refuses it first; and that no two results meet it, since an answer is known by what it
 -- says.
 -- Assumes nothing.
-use Prim.Native.Nat.{ℕ, _<_, _≤_}
+use Prim.Native.Nat.{ℕ, suc, _<_, _≤_}
+use native.Mathlib.Omega.{arith}
 use mathlib.Core.Path.{_≡_, refl, sym, ap, _∙_}
 use mathlib.Core.List.{List}
-use borrow.Author.Tests.{lt-ltb, le-ltb, eq-eqb, ne-eqb}
-use lib.ListN.{length}
+use borrow.Author.Tests.{lt-ltb, le-ltb, eq-eqb, ne-eqb, eqb-true}
+use lib.Dec.{eqb}
+use lib.ListN.{length, take, drop}
+use lib.Seq.{take-at}
 use Rattle.laws.specs.Logic.{when}
 use Rattle.laws.specs.Front.{front}
+use Rattle.laws.proofs.Logic.{either-way}
 use Rattle.refusals.specs.declared.Refusal.{Refusal}
 use Rattle.refusals.specs.declared.Refusal.the-variants.{ShortBuffer}
 use Rattle.refusals.specs.declared.Wrote.{Wrote}
@@ -37,6 +41,25 @@ module _ (new out : List ℕ) where
     pub meets-accepted : (r : Wrote) (after : List ℕ) → f ≡ 0 → Meets (put g new out) r after → Meets (put (before f g) new out) r after
     unfolding when
     meets-accepted r after e m = simp (eq-eqb _ _ e) m
+
+-- where a call says that it wrote, nothing was refused, it counted what it wrote, and that stands at the front
+abbrev countSaid : Said → ℕ
+countSaid (count n) = suc n
+countSaid (refusal n) = 0
+
+pub record Counted (f : ℕ) (new : List ℕ) (size : ℕ) (o : WriteOutcome) : Type 0 where
+  pub fine : f ≡ 0
+  pub all : size ≡ length new
+  pub stands : take size (o .buffer) ≡ new
+
+pub counted : (f : ℕ) (new out : List ℕ) (size : ℕ) → put f new out .answer ≡ count size → Counted f new size (put f new out)
+unfolding put
+counted f new out size =
+    either-way (λ (o : WriteOutcome). o .answer ≡ count size → Counted f new size o) (eqb f 0) (record { answer = count (length new); buffer = front new out }) (record { answer = refusal f; buffer = out })
+    (λ accepted said.
+    let all : size ≡ length new = omega (arith, ap countSaid said) in
+    record { fine = eqb-true f 0 accepted; all = all; stands = take-at new (drop (length new) out) size (sym all) })
+    (λ _ said. absurd (let z : ⊥ = omega (arith, ap countSaid said) in z))
 
 -- no two answers say the same
 abbrev saying : Said → Wrote

@@ -18,6 +18,7 @@ use Rattle.refusals.specs.Refusals.{before}
 use Rattle.octets.specs.Lists.{listFault}
 use Rattle.sequences.specs.Line.{framedAll, tenOnes, sequence, copies}
 use Rattle.refusals.specs.Lent.{count, refusal, WriteOutcome, roomFault, put}
+use Rattle.refusals.proofs.Outcomes.{counted}
 use Rattle.sequences.specs.Writing.{written}
 use Rattle.listening.specs.declared.Listener.{Listener}
 use Rattle.listening.specs.Record.{empty, fresh}
@@ -104,22 +105,10 @@ module _ (kind : Kind) (octets : List ℕ) (accepted : AcceptedMessage kind octe
   copies-read n = rw (← (again-line n)) (sent-read (again n) ∙ ap (flagged nothing) (again-told n) ∙ flagged-repeated kind octets accepted n)
 
 -- where the writer says how many bits it wrote, these stand at the front of its buffer
-abbrev laidDown : Bool → ℕ → List ℕ → List ℕ → WriteOutcome
-laidDown fine f line out = when fine (record { answer = count (length line); buffer = front line out }) (record { answer = refusal f; buffer = out })
-
-by-fault : (f : ℕ) (line out : List ℕ) (size : ℕ) (fine : Bool) → laidDown fine f line out .answer ≡ count size → (fine ≡ true) × (take size (laidDown fine f line out .buffer) ≡ line)
-unfolding when
-by-fault f line out size true e = (refl, take-at line (drop (length line) out) size (cc))
-by-fault f line out size false e = let z : _≡_ {A = ℕ} 0 1 = cc in absurd (let w : ⊥ = omega arith in w)
-
-pub put-front : (f : ℕ) (line out : List ℕ) (size : ℕ) → put f line out .answer ≡ count size → (f ≡ 0) × (take size (put f line out .buffer) ≡ line)
-unfolding put
-put-front f line out size e = let wrote = by-fault f line out size (eqb f 0) e in (eqb-true f 0 (wrote .0), wrote .1)
-
 pub buffer-read : (kind : Kind) (octets : List ℕ) (n : ℕ) (out : List ℕ) (size : ℕ) → octetsAll octets ≡ true → written kind octets n out .answer ≡ count size
     → reports fresh (take size (written kind octets n out .buffer) ++ tenOnes) ≡ repeated kind octets n
 buffer-read kind octets n out size small e =
     let line = copies n (sequence kind octets) in
-    let wrote = put-front (before (listFault (Writing kind) octets) (roomFault line out)) line out size e in
-    let fine = before-none (listFault (Writing kind) octets) (roomFault line out) (wrote .0) in
-    ap (λ (l : List ℕ). reports fresh (l ++ tenOnes)) (wrote .1) ∙ copies-read kind octets (record { octet = small; taken = fine .0 }) n
+    let wrote = counted (before (listFault (Writing kind) octets) (roomFault line out)) line out size e in
+    let fine = before-none (listFault (Writing kind) octets) (roomFault line out) (wrote .fine) in
+    ap (λ (l : List ℕ). reports fresh (l ++ tenOnes)) (wrote .stands) ∙ copies-read kind octets (record { octet = small; taken = fine .0 }) n
