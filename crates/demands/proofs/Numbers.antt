@@ -7,7 +7,7 @@ use mathlib.Core.Path.{_≡_, refl, sym, ap, _∙_}
 use mathlib.Core.Bool.{Bool, true, false}
 use mathlib.Core.List.{List, [], _∷_}
 use mathlib.Core.Logic.{⊎-elim}
-use borrow.Author.Tests.{lt-ltb, le-leb, eq-eqb, ne-eqb, eqb-true, eqb-false}
+use borrow.Author.Tests.{lt-ltb, le-leb, ne-eqb, eqb-true, eqb-false}
 use lib.Dec.{T, ltb, eqb}
 use lib.IntN.{pos}
 use lib.ListN.{length, drop}
@@ -39,7 +39,7 @@ use Rattle.steps.specs.Table.{over, agreedJm, agreedCm}
 use Rattle.steps.specs.Session.{between, isItem, isPcm, isMode, isChoice, inRange}
 use Rattle.steps.specs.Stepping.{Answered, same, entered, ended, goOn, refusedWith11, owns, carries, refusedStep, steppedIn, stepped}
 use Rattle.steps.specs.Stepping as stepping
-use Rattle.steps.proofs.Known.{is-so, taken-if, either-true, either-right}
+use Rattle.steps.proofs.Known.{is-so, taken-if, either-true}
 use Rattle.steps.proofs.Ticks.{between-true}
 use Rattle.steps.proofs.Answers.{possibleAnswer, answer-is-possible}
 use Rattle.codes.specs.Choosing.{choiceCode}

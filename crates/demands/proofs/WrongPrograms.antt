@@ -1,22 +1,20 @@
 -- None of the wrong programs that document 01 names meets the definitions: each fails on inputs that are computed, two with different answers where
 -- it is constant. The count of a writer is one law over `put`.
 -- Assumes nothing.
-use Prim.Native.Nat.{ℕ, suc}
+use Prim.Native.Nat.{ℕ}
 use native.Mathlib.Omega.{arith}
 use mathlib.Core.Path.{_≡_, refl, sym, ap, _∙_}
 use mathlib.Core.List.{List, [], _∷_, _++_}
-use lib.Dec.{eqb}
-use lib.ListN.{length, drop, getD, replicate}
-use lib.Seq.{take-at}
+use lib.ListN.{getD, replicate}
 use Rattle.laws.specs.Logic.{when, both, either}
 use Rattle.laws.specs.Tests.{sameList}
-use Rattle.laws.proofs.Logic.{either-way, clash}
+use Rattle.laws.proofs.Logic.{clash}
 use Rattle.octets.specs.declared.Kind.{Kind}
 use Rattle.octets.specs.declared.Kind.the-variants.{Ci, Menu}
 use Rattle.octets.specs.declared.Purpose.the-variants.{Reading, Writing}
 use Rattle.octets.specs.Lists.{firstFault, listFault, untilCategory}
 use Rattle.refusals.specs.Refusals.{before}
-use Rattle.refusals.specs.Lent.{Said, count, refusal, roomFault, put}
+use Rattle.refusals.specs.Lent.{count, roomFault, put}
 use Rattle.refusals.proofs.Outcomes.{counted}
 use Rattle.sequences.specs.Line.{framed, framedAll, tenOnes, sequence, copies}
 use Rattle.sequences.specs.Line.{cj as cjBits}
@@ -135,18 +133,22 @@ no-named-wrong-program-fits = record {
   writes = writer-writes;
   message = λ kind octets h. apart (h (alone kind one) one [] (heard-one kind) ∙ sym (h (alone kind other) other [] (heard-other kind)));
   kind = λ kind h. kinds-apart (h (alone Ci one) Ci one [] (heard-one Ci) ∙ sym (h (alone Menu one) Menu one [] (heard-one Menu)));
-  function = λ n h. differ 5 6 n (h bare (offerOf bare) refl) (h full (offerOf full) refl) (λ e. omega (arith, e));
-  items = λ n h. differ 0 3 n (h bare (offerOf bare) refl) (h full (offerOf full) refl) (λ e. omega (arith, e));
-  options = λ n h. differ 0 2 n (h bare (offerOf bare) refl) (h full (offerOf full) refl) (λ e. omega (arith, e));
-  lapm = λ t h. clash (h full (offerOf full) refl ∙ sym (h bare (offerOf bare) refl));
-  access = λ t h. clash (h full (offerOf full) refl ∙ sym (h bare (offerOf bare) refl));
-  accessOptions = λ n h. differ 0 4 n (h bare (offerOf bare) refl) (h full (offerOf full) refl) (λ e. omega (arith, e));
+  offer = record {
+    function = λ n h. differ 5 6 n (h bare (offerOf bare) refl) (h full (offerOf full) refl) (λ e. omega (arith, e));
+    items = λ n h. differ 0 3 n (h bare (offerOf bare) refl) (h full (offerOf full) refl) (λ e. omega (arith, e));
+    options = λ n h. differ 0 2 n (h bare (offerOf bare) refl) (h full (offerOf full) refl) (λ e. omega (arith, e));
+    lapm = λ t h. clash (h full (offerOf full) refl ∙ sym (h bare (offerOf bare) refl));
+    access = λ t h. clash (h full (offerOf full) refl ∙ sym (h bare (offerOf bare) refl));
+    accessOptions = λ n h. differ 0 4 n (h bare (offerOf bare) refl) (h full (offerOf full) refl) (λ e. omega (arith, e));
+  };
   choice = λ n h. differ 0 1 n (h asked (0xC1 ∷ []) refl) (h asked asked refl) (λ e. omega (arith, e));
   item = λ i h. differ 3 4 i (h asked (0xC1 ∷ 0x05 ∷ 0x13 ∷ 0x10 ∷ []) 3 refl) (h asked (0xC1 ∷ 0x05 ∷ 0x12 ∷ 0x10 ∷ []) 4 refl) (λ e. omega (arith, e));
   pcm = λ n h. differ 2 1 n (h analogueMenu digitalMenu 2 refl) (h digitalMenu analogueMenu 1 refl) (λ e. omega (arith, e));
-  ear = λ h. let z : _≡_ {A = ℕ} 1 0 = ap (λ (ear : Ear). ear .heard) (h (1 ∷ [])) in absurd (let w : ⊥ = omega (arith, z) in w);
-  msg = λ h. let z : _≡_ {A = ℕ} 1 0 = ap (λ (m : Message). m .len) (h (sequence Ci one)) in absurd (let w : ⊥ = omega (arith, z) in w);
-  last = λ h. let z : _≡_ {A = ℕ} 1 0 = ap (λ (m : Message). m .len) (h (alone Ci one)) in absurd (let w : ⊥ = omega (arith, z) in w);
+  changes = record {
+    ear = λ h. let z : _≡_ {A = ℕ} 1 0 = ap (λ (ear : Ear). ear .heard) (h (1 ∷ [])) in absurd (let w : ⊥ = omega (arith, z) in w);
+    msg = λ h. let z : _≡_ {A = ℕ} 1 0 = ap (λ (m : Message). m .len) (h (sequence Ci one)) in absurd (let w : ⊥ = omega (arith, z) in w);
+    last = λ h. let z : _≡_ {A = ℕ} 1 0 = ap (λ (m : Message). m .len) (h (alone Ci one)) in absurd (let w : ⊥ = omega (arith, z) in w);
+  };
   later = λ kind h. apart (sym (h (sequence kind one ++ alone kind other) one other [] (heard-both kind)));
   laterKind = λ h. kinds-apart (sym (h (sequence Ci one ++ alone Menu one) Ci Menu one [] heard-kinds));
   counts = written-counts;

@@ -1,7 +1,7 @@
 -- Demand 1: "Every public call takes every input. A bit, message, record or event that breaks the rules gets a numbered refusal. The caller
 -- never has to test first. A refusal writes nothing into a lent buffer, and what it leaves in the listening record and the session is laid
--- down." That a call takes every input is that no public function has a `requires`: a test reads that in the code. What the others say is
--- here, for every input.
+-- down." That a call takes every input is that no public function has a `requires`: a test reads that in the code (host/tests/documents.rs).
+-- What the others say is here, for every input.
 use Prim.Native.Nat.{ℕ, _<_, _+_}
 use mathlib.Core.Path.{_≡_}
 use mathlib.Core.Bool.{Bool, true, false}

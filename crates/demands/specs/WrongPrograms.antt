@@ -38,6 +38,21 @@ chooses (item i) = true
 chooses (pcm options) = true
 chooses (refusal n) = false
 
+-- a menu reader that wherever it reads says this function, these items, these PCM options, LAPM or not, access or not
+pub record NoPartOfAnOfferIsConstant : Type 0 where
+  pub function : (n : ℕ) → ((octets : List ℕ) (offer : Offer) → menuRead octets ≡ offers offer → offer .function ≡ n) → ⊥
+  pub items : (n : ℕ) → ((octets : List ℕ) (offer : Offer) → menuRead octets ≡ offers offer → offer .items ≡ n) → ⊥
+  pub options : (n : ℕ) → ((octets : List ℕ) (offer : Offer) → menuRead octets ≡ offers offer → offer .pcm ≡ n) → ⊥
+  pub lapm : (t : Bool) → ((octets : List ℕ) (offer : Offer) → menuRead octets ≡ offers offer → offer .lapm ≡ t) → ⊥
+  pub access : (t : Bool) → ((octets : List ℕ) (offer : Offer) → menuRead octets ≡ offers offer → offer .access ≡ t) → ⊥
+  pub accessOptions : (n : ℕ) → ((octets : List ℕ) (offer : Offer) → menuRead octets ≡ offers offer → offer .«access_options» ≡ n) → ⊥
+
+-- a listener that whatever it hears stays where it is in the framing, keeps the message that it hears, or keeps the message reported last
+pub record NoPartOfTheRecordStands : Type 0 where
+  pub ear : ((bits : List ℕ) → onceHeard fresh bits .ear ≡ fresh .ear) → ⊥
+  pub msg : ((bits : List ℕ) → onceHeard fresh bits .msg ≡ fresh .msg) → ⊥
+  pub last : ((bits : List ℕ) → onceHeard fresh bits .last ≡ fresh .last) → ⊥
+
 -- wherever a call says that it wrote, it says how many, and they stand at the front of the buffer
 pub record CountsWhatItWrote (new : List ℕ) (laid : WriteOutcome) : Type 0 where
   pub counted : (size : ℕ) → laid .answer ≡ count size → size ≡ length new
@@ -53,22 +68,13 @@ pub record NoNamedWrongProgramFits : Type 0 where
   -- "one constant message or choice (2)": wherever a message is reported, it has these octets, or this kind
   pub message : (kind : Kind) (octets : List ℕ) → ((bits octets′ : List ℕ) (rest : List Report) → First bits kind octets′ rest → octets′ ≡ octets) → ⊥
   pub kind : (kind : Kind) → ((bits : List ℕ) (kind′ : Kind) (octets : List ℕ) (rest : List Report) → First bits kind′ octets rest → kind′ ≡ kind) → ⊥
-  -- wherever a menu is read, it has this function, these items, these PCM options, LAPM as here, access as here
-  pub function : (n : ℕ) → ((octets : List ℕ) (offer : Offer) → menuRead octets ≡ offers offer → offer .function ≡ n) → ⊥
-  pub items : (n : ℕ) → ((octets : List ℕ) (offer : Offer) → menuRead octets ≡ offers offer → offer .items ≡ n) → ⊥
-  pub options : (n : ℕ) → ((octets : List ℕ) (offer : Offer) → menuRead octets ≡ offers offer → offer .pcm ≡ n) → ⊥
-  pub lapm : (t : Bool) → ((octets : List ℕ) (offer : Offer) → menuRead octets ≡ offers offer → offer .lapm ≡ t) → ⊥
-  pub access : (t : Bool) → ((octets : List ℕ) (offer : Offer) → menuRead octets ≡ offers offer → offer .access ≡ t) → ⊥
-  pub accessOptions : (n : ℕ) → ((octets : List ℕ) (offer : Offer) → menuRead octets ≡ offers offer → offer .«access_options» ≡ n) → ⊥
+  pub offer : NoPartOfAnOfferIsConstant
   -- wherever there is a choice, it is of this case; wherever an item is chosen, it is this one; and so with PCM options
   pub choice : (n : ℕ) → ((cm jm : List ℕ) → chooses (choiceOf cm jm) ≡ true → caseOf (choiceOf cm jm) ≡ n) → ⊥
   pub item : (i : ℕ) → ((cm jm : List ℕ) (j : ℕ) → choiceOf cm jm ≡ item j → j ≡ i) → ⊥
   pub pcm : (n : ℕ) → ((cm jm : List ℕ) (options : ℕ) → choiceOf cm jm ≡ pcm options → options ≡ n) → ⊥
-  -- "a listener that never changes its record (2)", whatever it hears: neither where it is in the framing, nor the message that it hears, nor the
-  -- message that it reported last
-  pub ear : ((bits : List ℕ) → onceHeard fresh bits .ear ≡ fresh .ear) → ⊥
-  pub msg : ((bits : List ℕ) → onceHeard fresh bits .msg ≡ fresh .msg) → ⊥
-  pub last : ((bits : List ℕ) → onceHeard fresh bits .last ≡ fresh .last) → ⊥
+  -- "a listener that never changes its record (2)"
+  pub changes : NoPartOfTheRecordStands
   -- "one that reads the first message and repeats it from then on (2)": its octets with the kind that was sent, or its kind with the octets
   pub later : (kind : Kind) → ((bits octets octets′ : List ℕ) (rest : List Report) → FirstTwo bits kind octets kind octets′ rest → octets′ ≡ octets) → ⊥
   pub laterKind : ((bits : List ℕ) (kind kind′ : Kind) (octets : List ℕ) (rest : List Report) → FirstTwo bits kind octets kind′ octets rest → kind′ ≡ kind) → ⊥

@@ -2,22 +2,17 @@
 -- before it, and the ten 1s behind them the last; CJ stands nowhere in them, so a reader that does not listen for it makes the same of them.
 -- Assumes nothing.
 use Prim.Native.Nat.{ℕ, zero, suc, _≤_}
-use native.Mathlib.Omega.{arith}
 use mathlib.Core.Path.{_≡_, refl, ap, _∙_}
-use mathlib.Core.Bool.{Bool, true, false}
+use mathlib.Core.Bool.{true, false}
 use mathlib.Core.List.{List, [], _∷_, _++_, append-assoc}
-use borrow.Author.Tests.{eqb-true}
-use lib.Dec.{eqb, lit<}
-use lib.ListN.{length, take, drop, replicate}
-use lib.Seq.{take-at}
-use Rattle.laws.specs.Logic.{when}
-use Rattle.laws.specs.Front.{front}
+use lib.Dec.{lit<}
+use lib.ListN.{length, take, replicate}
 use Rattle.octets.specs.declared.Kind.{Kind}
 use Rattle.octets.specs.declared.Purpose.the-variants.{Writing}
 use Rattle.refusals.specs.Refusals.{before}
 use Rattle.octets.specs.Lists.{listFault}
 use Rattle.sequences.specs.Line.{framedAll, tenOnes, sequence, copies}
-use Rattle.refusals.specs.Lent.{count, refusal, WriteOutcome, roomFault, put}
+use Rattle.refusals.specs.Lent.{count, roomFault}
 use Rattle.refusals.proofs.Outcomes.{counted}
 use Rattle.sequences.specs.Writing.{written}
 use Rattle.listening.specs.declared.Listener.{Listener}
