@@ -7,7 +7,7 @@ use mathlib.Core.Bool.{true}
 use mathlib.Core.List.{List}
 use Rattle.stretches.specs.Stretch.{bitsAll}
 use Rattle.stretches.proofs.Heard.{are-bits}
-use Rattle.stretches.proofs.Next.{brings-cj, sync-opens, hunts-on, in-sync, sync-accepted, octet-starts, sequence-stops, in-octet, stop-bit-zero, octet-bad, octet-too-many, octet-stored, one-more-one, tenth-one, cut-short, cut-short-by-a-sync}
+use Rattle.stretches.proofs.Next.{brings-cj, sync-opens, hunts-on, inside-sync, sync-accepted, sync-passed, octet-starts, sequence-stops, inside-octet, stop-bit-zero, octet-bad, octet-too-many, octet-stored, one-more-one, tenth-one, cut-short, cut-short-by-a-sync}
 use Rattle.demands.specs.NextBit.{NextBitIsAsLaidDown}
 
 pub next-bit-is-as-laid-down : (bits : List ℕ) → bitsAll bits ≡ true → NextBitIsAsLaidDown bits
@@ -17,11 +17,12 @@ next-bit-is-as-laid-down bits tested =
       tellsCj = brings-cj bits lows;
       syncStarts = sync-opens bits lows;
       hunts = hunts-on bits lows;
-      insideSync = in-sync bits lows;
+      insideSync = inside-sync bits lows;
       synced = sync-accepted bits lows;
+      passed = sync-passed bits lows;
       opens = octet-starts bits lows;
       ends = sequence-stops bits lows;
-      insideOctet = in-octet bits lows;
+      insideOctet = inside-octet bits lows;
       stopZero = stop-bit-zero bits lows;
       badOctet = λ here not-cj data′ frame. octet-bad bits lows here not-cj data′ (frame .eight) (frame .last);
       tooMany = λ here not-cj data′ frame. octet-too-many bits lows here not-cj data′ (frame .eight) (frame .last);

@@ -15,7 +15,8 @@ use Rattle.stretches.specs.Stretch.{Ends}
 use Rattle.stretches.specs.Heard.{coded, Brings}
 use Rattle.demands.specs.Heard.{line}
 
--- where the next bit is, what is being heard, and what the bit brings: what it tells, the place behind it, the message that is held there
+-- where the next bit is, what is being heard, and what the bit brings: what it tells, the place behind it, the message that is held there; the
+-- message reported last stays
 abbrev pub at : List ℕ → ℕ
 at bits = line bits .ear .place
 
@@ -23,7 +24,7 @@ abbrev pub held : List ℕ → Message
 held bits = line bits .msg
 
 abbrev pub Next : List ℕ → ℕ → Told → ℕ → Message → Type 0
-Next bits = Brings (line bits)
+Next bits bit t next m = Brings (line bits) bit t next m (line bits .last)
 
 -- these stand before it: no CJ comes to its end
 abbrev pub NoCj : List ℕ → ℕ → Type 0
@@ -43,6 +44,8 @@ pub record NextBitIsAsLaidDown (bits : List ℕ) : Type 0 where
   pub insideSync : (bit : ℕ) → bit < 2 → 0 < at bits → at bits < lastOfSync → Next bits bit silence (at bits + 1) (held bits)
   -- "If the ten bits from there are the CI or menu sync, octets follow and the stored octets start empty."
   pub synced : (bit : ℕ) → bit < 2 → (kind : Kind) → at bits ≡ lastOfSync → Ends (sync kind) (bits ++ bit ∷ []) → Next bits bit silence boundary (started (held bits) (coded kind))
+  -- "Any other sync is passed over and hunting resumes."
+  pub passed : (bit : ℕ) → bit < 2 → at bits ≡ lastOfSync → ((kind : Kind) → Ends (sync kind) (bits ++ bit ∷ []) → ⊥) → Next bits bit silence hunting (held bits)
   -- "At an octet boundary, 0 starts an octet and 1 ends the sequence."
   pub opens : at bits ≡ boundary → Next bits 0 silence inOctet (held bits)
   pub ends : at bits ≡ boundary → Next bits 1 silence endingOnes (held bits)
@@ -55,7 +58,7 @@ pub record NextBitIsAsLaidDown (bits : List ℕ) : Type 0 where
   pub stores : at bits ≡ stopPosition → NoCj bits 1 → (data′ : List ℕ) → DataBits bits data′ → bad (value data′) ≡ false → (held bits .len ≡ 64 → ⊥) → Next bits 1 silence boundary (stored (held bits) (value data′))
   -- "When ten 1s stand there in a row, counted from the boundary, the message is reported at the tenth, .. and hunting resumes."
   pub another1 : stopPosition < at bits → at bits < lastOfEnding → Next bits 1 silence (at bits + 1) (held bits)
-  pub tenth : at bits ≡ lastOfEnding → Next bits 1 (reported (held bits) (line bits .last)) hunting (held bits)
+  pub tenth : at bits ≡ lastOfEnding → Brings (line bits) 1 (reported (held bits) (line bits .last)) hunting (held bits) (held bits)
   -- "If a 0 comes sooner, that is refusal 13 and hunting resumes; if ten 1s precede it all the same (..), it also starts a sync."
   pub cutShort : stopPosition < at bits → (Ends tenOnes bits → ⊥) → Next bits 0 (refusal 13) hunting (held bits)
   pub cutBySync : stopPosition < at bits → Ends tenOnes bits → Next bits 0 (refusal 13) inSync (held bits)

@@ -95,7 +95,7 @@ ends-number a w bits lows ten e =
 
 -- what led to each part of the framing
 module _ {R : Type 0} {bits : List ℕ} {m : Message} {place : ℕ} where
-  in-sync : Led bits m place → 0 < place → place < boundary → ((later : List ℕ) → length later < lastOfSync → Ends (tenOnes ++ 0 ∷ later) bits → place ≡ inSync + length later → R) → R
+  pub in-sync : Led bits m place → 0 < place → place < boundary → ((later : List ℕ) → length later < lastOfSync → Ends (tenOnes ++ 0 ∷ later) bits → place ≡ inSync + length later → R) → R
   in-sync (led.hunts is) some few go = absurd (omega (arith, is))
   in-sync (syncs later short stands is) some few go = go later short stands is
   in-sync (bounds kind of stands is) some few go = absurd (omega (arith, is))

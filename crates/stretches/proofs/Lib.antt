@@ -8,8 +8,9 @@ pub mod Sequences
 pub mod Flags
 pub mod Heard
 pub mod Led
-pub mod Syncs
+pub mod Endings
 pub mod Next
+pub mod Syncs
 pub mod Parts
 pub mod Copies
 pub mod Hunting

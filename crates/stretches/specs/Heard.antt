@@ -35,11 +35,12 @@ pub data Led (bits : List ℕ) (m : Message) (place : ℕ) : Type 0 where
   -- ".. and 1 ends the sequence": 1s "in a row, counted from the boundary"
   ends : (kind : Kind) (n : ℕ) → IsOf kind m → n < 9 → Ends (sequence kind (octetsOf m) ++ 1 ∷ replicate n 1) bits → place ≡ endingOnes + n → Led bits m place
 
--- what a bit brings: what it tells, the place behind it, and the message that is held there
-pub record Brings (rec : Listener) (bit : ℕ) (t : Told) (next : ℕ) (m : Message) : Type 0 where
+-- what a bit brings: what it tells, the place behind it, the message that is held there, and the one that was reported last
+pub record Brings (rec : Listener) (bit : ℕ) (t : Told) (next : ℕ) (m before : Message) : Type 0 where
   pub told : heardBit rec bit .report ≡ t
   pub place : heardBit rec bit .rec .ear .place ≡ next
   pub msg : heardBit rec bit .rec .msg ≡ m
+  pub last : heardBit rec bit .rec .last ≡ before
 
 -- bits that are "passed over": nothing is told, "hunting resumes", and both messages stay
 pub record PassedOver (rec : Listener) (bits : List ℕ) : Type 0 where
