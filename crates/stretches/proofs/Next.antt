@@ -6,10 +6,10 @@ use native.Mathlib.Omega.{arith}
 use mathlib.Core.Path.{_≡_, refl, sym, ap, _∙_}
 use mathlib.Core.Bool.{Bool, true, false}
 use mathlib.Core.List.{List, [], _∷_, _++_, append-assoc, append-nil}
-use borrow.Author.Tests.{lt-ltb, le-ltb, eq-eqb, ne-eqb}
+use borrow.Author.Tests.{lt-ltb, le-ltb, ne-eqb}
 use lib.Dec.{eqb, lit<}
 use lib.ListN.{length, take, replicate, length-append}
-use Rattle.laws.specs.Logic.{when, both}
+use Rattle.laws.specs.Logic.{when}
 use Rattle.octets.specs.declared.Kind.{Kind}
 use Rattle.octets.specs.declared.Kind.the-variants.{Ci, Menu}
 use Rattle.octets.specs.Octets.{bad}
@@ -27,7 +27,7 @@ use Rattle.stretches.specs.Hearing.{onceHeard}
 use Rattle.stretches.specs.Heard.{coded, Led, syncs, bounds, fills, ends, Brings}
 use Rattle.stretches.specs.Heard as led
 use Rattle.stretches.proofs.Each.{none, more as also, each-append, Bits, replicate-more}
-use Rattle.stretches.proofs.Sequences.{sync-bits}
+use Rattle.stretches.proofs.Sequences.{hunted-on, synced-as, sync-bits}
 use Rattle.stretches.proofs.Heard.{Knows, knows-heard, past-on, ends-is-cj, no-cj-there}
 use Rattle.stretches.proofs.Led.{sync-length, in-sync, ends-ten, further, one-further, ends-number, led-heard, ten-ends, octet-ends, ends-ones}
 use Rattle.stretches.proofs.Endings.{not-both, not-behind-one, not-in-zero}
@@ -109,16 +109,6 @@ module _ (place before past len bit : ℕ) where
   unfolding placed when
   at-octet some few =
       simp (ne-eqb place 0 (λ e. omega (arith, e)), le-ltb place lastOfSync (omega arith), ne-eqb place lastOfSync (λ e. omega (arith, e)), ne-eqb place boundary (λ e. omega (arith, e)), lt-ltb place stopPosition few)
-
--- a sync's start and end
-hunted-there : (before : ℕ) → lastTen before ≡ value tenOnes → hunted before 0 ≡ inSync
-unfolding hunted when both
-hunted-there before ones = simp (eq-eqb _ _ ones)
-
-synced-as : (kind : Kind) (past : ℕ) → lastTen past ≡ value (sync kind) → synced past ≡ go boundary (startOf kind)
-unfolding synced when
-synced-as Ci past word = simp (eq-eqb _ _ word)
-synced-as Menu past word = simp word
 
 -- the next bit
 module _ (bits : List ℕ) (lows : Bits bits) where
@@ -207,7 +197,7 @@ module _ (bits : List ℕ) (lows : Bits bits) where
   -- "A 0 whose ten preceding heard bits are all 1 starts a sync."
   pub sync-opens : at ≡ hunting → Ends tenOnes bits → Brings (onceHeard fresh bits) 0 silence inSync (onceHeard fresh bits .msg) (onceHeard fresh bits .last)
   unfolding placed when
-  sync-opens here ones = quietly 0 (lit< tt) inSync (no-cj 0 (lit< tt) (not-in-zero bits)) (simp (here, hunted-there (rec .ear .past) (ten-ends bits lows tenOnes refl ones)))
+  sync-opens here ones = quietly 0 (lit< tt) inSync (no-cj 0 (lit< tt) (not-in-zero bits)) (simp (here, hunted-on (rec .ear .past) (ten-ends bits lows tenOnes refl ones)))
 
   -- "At an octet boundary, 0 starts an octet and 1 ends the sequence."
   module _ (here : at ≡ boundary) where
@@ -264,7 +254,7 @@ module _ (bits : List ℕ) (lows : Bits bits) where
         by-hunted (starts is-zero ones) = absurd (no-ones (ends-ones bits lows ones))
 
     pub cut-short-by-a-sync : Ends tenOnes bits → Brings (onceHeard fresh bits) 0 (refusal 13) inSync (onceHeard fresh bits .msg) (onceHeard fresh bits .last)
-    cut-short-by-a-sync ones = cut-to inSync (hunted-there (rec .ear .past) (ten-ends bits lows tenOnes refl ones))
+    cut-short-by-a-sync ones = cut-to inSync (hunted-on (rec .ear .past) (ten-ends bits lows tenOnes refl ones))
 
     pub one-more-one : at < lastOfEnding → Brings (onceHeard fresh bits) 1 silence (onceHeard fresh bits .ear .place + 1) (onceHeard fresh bits .msg) (onceHeard fresh bits .last)
     unfolding ended when

@@ -19,11 +19,11 @@ use Rattle.octets.specs.declared.Kind.{Kind}
 use Rattle.octets.specs.declared.Kind.the-variants.{Ci, Menu}
 use Rattle.octets.specs.Octets.{bad, b0, b1, b2, b3, b4, b5, b6, b7}
 use Rattle.sequences.specs.Line.{framed, framedAll, tenOnes, sync, sequence}
-use Rattle.sequences.specs.Inner.{syncTen}
 use Rattle.listening.specs.declared.Message.{Message}
 use Rattle.listening.specs.declared.Listener.{Listener}
-use Rattle.framing.specs.Framing.{pushed, lastTen, octetOf, go, hunted, synced, bounded, stopped, ended, placed}
+use Rattle.framing.specs.Framing.{pushed, lastTen, octetOf, inSync, boundary, go, hunted, synced, bounded, stopped, ended, placed}
 use Rattle.listening.specs.Hearing.{changed, reported, told, toldAlone, acted}
+use Rattle.framing.proofs.Places.{startOf}
 use Rattle.framing.proofs.Words.{hearing}
 use Rattle.stretches.specs.Hearing.{Report, message}
 use Rattle.stretches.specs.Heard.{coded}
@@ -68,11 +68,11 @@ ones-ending Ci past len array (here heard last) = record { tells = refl; leaves 
 ones-ending Menu past len array (here heard last) = record { tells = refl; leaves = here _ _ }
 
 -- a sync behind ten 1s, its first bit, the eight between and its last
-hunted-on : (past : ℕ) → lastTen past ≡ 1023 → hunted past 0 ≡ 1
+pub hunted-on : (past : ℕ) → lastTen past ≡ value tenOnes → hunted past 0 ≡ inSync
 unfolding hunted when both
 hunted-on past e = simp (eq-eqb _ _ e)
 
-sync-first : (past : ℕ) (msg : Message) {rec : Listener} → lastTen past ≡ 1023 → At 0 past msg rec → Goes rec (0 ∷ []) [] (At 1 (pushed past 0) msg)
+sync-first : (past : ℕ) (msg : Message) {rec : Listener} → lastTen past ≡ value tenOnes → At 0 past msg rec → Goes rec (0 ∷ []) [] (At 1 (pushed past 0) msg)
 unfolding plain after acted placed told toldAlone changed when
 sync-first past msg e (here heard last) = record { tells = refl; leaves = rw (hunted-on past e) (here _ last) }
 
@@ -85,12 +85,12 @@ unfolding plain after acted placed told toldAlone changed when
 sync-between Ci past msg (here heard last) = record { tells = refl; leaves = here _ last }
 sync-between Menu past msg (here heard last) = record { tells = refl; leaves = here _ last }
 
-synced-as : (kind : Kind) (past : ℕ) → lastTen past ≡ syncTen kind → synced past ≡ go 10 (coded kind)
+pub synced-as : (kind : Kind) (past : ℕ) → lastTen past ≡ value (sync kind) → synced past ≡ go boundary (startOf kind)
 unfolding synced when
 synced-as Ci past e = simp (eq-eqb _ _ e)
 synced-as Menu past e = simp e
 
-sync-last : (kind : Kind) (past : ℕ) (msg : Message) {rec : Listener} → lastTen (pushed past 1) ≡ syncTen kind → At 9 past msg rec → Goes rec (1 ∷ []) [] (At 10 (pushed past 1) (holding kind 0 (msg .octets)))
+sync-last : (kind : Kind) (past : ℕ) (msg : Message) {rec : Listener} → lastTen (pushed past 1) ≡ value (sync kind) → At 9 past msg rec → Goes rec (1 ∷ []) [] (At 10 (pushed past 1) (holding kind 0 (msg .octets)))
 unfolding plain after acted placed told toldAlone changed when
 sync-last Ci past msg e (here heard last) = record { tells = rw (synced-as Ci (pushed past 1) e); leaves = rw (synced-as Ci (pushed past 1) e) (here _ last) }
 sync-last Menu past msg e (here heard last) = record { tells = rw (synced-as Menu (pushed past 1) e); leaves = rw (synced-as Menu (pushed past 1) e) (here _ last) }
@@ -129,10 +129,10 @@ unfolding every both framed allBelow
 framed-bits b h = bits-by (framed b) (below (λ (n : ℕ). every (λ (bit : ℕ). ltb bit 2) (framed n)) 256 tt b h)
 
 -- their numbers, whatever was heard before
-ones-number : (past : ℕ) → Small past → lastTen (hearing past tenOnes) ≡ 1023
+ones-number : (past : ℕ) → Small past → lastTen (hearing past tenOnes) ≡ value tenOnes
 ones-number past h = ten-heard past tenOnes h refl
 
-sync-number : (kind : Kind) (past : ℕ) → Small past → lastTen (hearing past (sync kind)) ≡ syncTen kind
+sync-number : (kind : Kind) (past : ℕ) → Small past → lastTen (hearing past (sync kind)) ≡ value (sync kind)
 sync-number Ci past h = ten-heard past (sync Ci) h refl
 sync-number Menu past h = ten-heard past (sync Menu) h refl
 
@@ -155,7 +155,7 @@ pub record Idle (rec : Listener) : Type 0 where
 -- hunting, behind ten 1s
 pub record Primed (rec : Listener) : Type 0 where
   pub idle : Idle rec
-  pub ones : lastTen (idle .past) ≡ 1023
+  pub ones : lastTen (idle .past) ≡ value tenOnes
 
 -- at an octet boundary, behind a sync and these octets
 pub record Held (kind : Kind) (octets : List ℕ) (rec : Listener) : Type 0 where
