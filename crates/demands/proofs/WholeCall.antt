@@ -6,7 +6,7 @@ use native.Mathlib.Omega.{arith}
 use mathlib.Core.Path.{_≡_, refl, sym, ap, ap₂, subst, _∙_}
 use mathlib.Core.Bool.{Bool, true, false, not}
 use mathlib.Core.List.{List, [], _∷_}
-use borrow.Author.Tests.{not-true, eq-eqb, ne-eqb, eqb-true, eqb-false, le-leb, leb-true}
+use borrow.Author.Tests.{not-true, eq-eqb, ne-eqb, eqb-true, eqb-false, le-leb, leb-true, ltb-true}
 use lib.Dec.{T, leb, ltb, eqb}
 use Rattle.steps.proofs.Known.{is-so}
 use Rattle.laws.specs.Logic.{when, both, either}
@@ -21,6 +21,7 @@ use Rattle.steps.specs.Session.{isItem, isChoice, isMode, isTe, caller, answere
 use Rattle.steps.specs.Stepping.{Answered, same, entered, ended, goOn, refusal, StepOutcome, chosenAfter, endedAs, answerOf, elapsed, owns, carries, refusedWith11, applies, findRow, moved, timed, steppedIn, stepped}
 use Rattle.steps.specs.Runs.{Timed, next, run}
 use Rattle.steps.proofs.Rows.{any-row, step-case}
+use Rattle.steps.proofs.Refused.{in-time}
 use Rattle.steps.proofs.Ranges.{step-keeps-range, answerer-start-is-in-range}
 use Rattle.steps.proofs.Runs.{stays-over}
 use Rattle.records.specs.declared.Record.{Record}
@@ -53,8 +54,7 @@ module _ (s : Session) (e v now : ℕ) where
   -- an event in time goes to the table
   goes : inRange s ≡ true → eqb (s .state) over ≡ false → both (owns (s .end) e) (carries e v) ≡ true → ltb (elapsed now (s .entry)) 2147483648 ≡ true
       → stepped s e v now .session ≡ moved s e v now (findRow s e v (elapsed now (s .entry)) rows) .session
-  unfolding steppedIn timed when
-  goes inside going own time = simp (inside, going, own, time)
+  goes inside going own time = ap (λ (o : StepOutcome). o .session) (in-time s e v now inside (eqb-false (s .state) over going) own (ltb-true _ _ time))
 
 -- the next event that the order waits for
 pub record Reached (s : Session) (d : Due) (ds : List Due) (ts : List Timed) : Type 0 where

@@ -10,6 +10,7 @@ pub mod Undefined
 pub mod WholeCall
 pub mod AnyEvents
 pub mod CallsHappen
+pub mod TableLines
 pub mod FromBits
 pub mod Numbers
 pub mod Repeated

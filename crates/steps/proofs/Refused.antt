@@ -75,7 +75,7 @@ module _ (s : Session) (event value now : ℕ) where
 
   -- an event of a session that goes on, of its own end, and in time
   module _ (inside : inRange s ≡ true) (going : s .state ≡ over → ⊥) (own : both (owns (s .end) event) (carries event value) ≡ true) where
-    in-time : elapsed now (s .entry) < 2147483648 → stepped s event value now ≡ moved s event value now (findRow s event value (elapsed now (s .entry)) rows)
+    pub in-time : elapsed now (s .entry) < 2147483648 → stepped s event value now ≡ moved s event value now (findRow s event value (elapsed now (s .entry)) rows)
     unfolding steppedIn timed when
     in-time soon = simp (inside, ne-eqb (s .state) over going, own, lt-ltb (elapsed now (s .entry)) 2147483648 soon)
 
