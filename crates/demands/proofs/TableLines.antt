@@ -11,7 +11,7 @@ use Rattle.laws.specs.Logic.{when, both, either}
 use Rattle.laws.proofs.Logic.{either-way, clash}
 use Rattle.steps.specs.declared.Session.{Session}
 use Rattle.steps.specs.Table.{callerStill, calling, quiet, menu, closing, pause, answererStill, answering, joint, over, ansam, ans, sigA, agreedJm, cjSent, agreedCm, sigC, cj, tick, rows}
-use Rattle.steps.specs.Session.{caller, answerer, isItem, isPcm, isChoice}
+use Rattle.steps.specs.Session.{caller, answerer, isChoice}
 use Rattle.steps.specs.Stepping.{StepOutcome, elapsed, owns, carries, refusedWith11, applies, findRow, moved, stepped}
 use Rattle.steps.proofs.Refused.{in-time}
 use Rattle.demands.specs.TableLines.{session, InTime, CallerGoesByTheTable, AnswererGoesByTheTable, PauseGoesByTheTable}

@@ -4,9 +4,9 @@
 use Prim.Native.Nat.{ℕ, _<_}
 use native.Mathlib.Omega.{arith}
 use mathlib.Core.Path.{_≡_, refl, sym, ap, ap₂, subst, _∙_}
-use mathlib.Core.Bool.{Bool, true, false, not}
+use mathlib.Core.Bool.{Bool, true, false}
 use mathlib.Core.List.{List, [], _∷_}
-use borrow.Author.Tests.{not-true, eq-eqb, ne-eqb, eqb-true, eqb-false, le-leb, leb-true, ltb-true}
+use borrow.Author.Tests.{eq-eqb, ne-eqb, eqb-true, eqb-false, leb-true, ltb-true}
 use lib.Dec.{T, leb, ltb, eqb}
 use Rattle.steps.proofs.Known.{is-so}
 use Rattle.laws.specs.Logic.{when, both, either}
@@ -16,12 +16,11 @@ use Rattle.laws.proofs.Logic.{either-way, both-true}
 use Rattle.choices.specs.Choosing.{Chosen, none, item, pcm, choiceOf}
 use Rattle.choices.specs.Choosing as choosing
 use Rattle.steps.specs.declared.Session.{Session}
-use Rattle.steps.specs.Table.{callerStill, calling, quiet, menu, closing, pause, answererStill, answering, joint, over, going, cleared, goesOn, ansam, agreedJm, cjSent, agreedCm, sigC, cj, tick, rows}
+use Rattle.steps.specs.Table.{callerStill, calling, quiet, menu, closing, pause, answererStill, answering, joint, over, going, cleared, goesOn, ansam, agreedJm, cjSent, agreedCm, sigC, cj, tick}
 use Rattle.steps.specs.Session.{isItem, isChoice, isMode, isTe, caller, answerer, inRange, callerFrom, answererFrom}
-use Rattle.steps.specs.Stepping.{Answered, same, entered, ended, goOn, refusal, StepOutcome, chosenAfter, endedAs, answerOf, elapsed, owns, carries, refusedWith11, applies, findRow, moved, timed, steppedIn, stepped}
+use Rattle.steps.specs.Stepping.{Answered, same, entered, ended, goOn, refusal, StepOutcome, chosenAfter, endedAs, answerOf, elapsed, stepped}
 use Rattle.steps.specs.Runs.{Timed, next, run}
 use Rattle.steps.proofs.Rows.{any-row, step-case}
-use Rattle.steps.proofs.Refused.{in-time}
 use Rattle.steps.proofs.Ranges.{step-keeps-range, answerer-start-is-in-range}
 use Rattle.steps.proofs.Runs.{stays-over}
 use Rattle.records.specs.declared.Record.{Record}
@@ -29,6 +28,8 @@ use Rattle.offers.specs.Offering.{cmOffer}
 use Rattle.offers.proofs.Meaning.{menu-readable}
 use Rattle.demands.specs.Joint.{cmOf, jmOf}
 use Rattle.demands.specs.OneChoice.{Call, NothingShared, callerNames, answererNames, BothNameOneChoice}
+use Rattle.demands.specs.TableLines.{InTime}
+use Rattle.demands.proofs.TableLines.{caller-goes-by-the-table, answerer-goes-by-the-table, pause-goes-by-the-table}
 use Rattle.demands.proofs.OneChoice.{kindOf, choice-case, both-ends-name-one-choice}
 use Rattle.demands.specs.WholeCall.{carried, Due, inTime, InOrder, waiting, comes, lastTick, callerOrder, EndsJoint, byCj, bySigC, answererOrder, EndsWith, BothEndWith}
 
@@ -50,11 +51,6 @@ module _ (s : Session) (e v now : ℕ) where
   keeps =
       step-case s e v now (λ (o : StepOutcome). o .answer ≡ same → o .session ≡ s) (λ r. true) any-row (λ _ _ _ _. refl) (λ _. refl)
       (λ r _ _ h. absurd (let z : ⊥ = omega (arith, ap moves h, row-moves (r .to .0) (endedAs (r .to .1) (chosenAfter e v (s .chosen))) (chosenAfter e v (s .chosen))) in z))
-
-  -- an event in time goes to the table
-  goes : inRange s ≡ true → eqb (s .state) over ≡ false → both (owns (s .end) e) (carries e v) ≡ true → ltb (elapsed now (s .entry)) 2147483648 ≡ true
-      → stepped s e v now .session ≡ moved s e v now (findRow s e v (elapsed now (s .entry)) rows) .session
-  goes inside going own time = ap (λ (o : StepOutcome). o .session) (in-time s e v now inside (eqb-false (s .state) over going) own (ltb-true _ _ time))
 
 -- the next event that the order waits for
 pub record Reached (s : Session) (d : Due) (ds : List Due) (ts : List Timed) : Type 0 where
@@ -109,6 +105,13 @@ module _ (start now least : ℕ) (time : After least start now) where
   early : ltb (elapsed now start) 2147483648 ≡ true
   early = both-true _ _ time .1
 
+abbrev sessionOf : StepOutcome → Session
+sessionOf o = o .session
+
+module _ (start now least : ℕ) (time : After least start now) where
+  timely : (s : Session) → s .entry ≡ start → inRange s ≡ true → InTime s now
+  timely s since inside = record { inside = inside; soon = rw since (ltb-true _ _ (early start now least time)) }
+
 -- a session that is over stays as it ended
 over-ends : (s : Session) (choice : ℕ) (ts : List Timed) → inRange s ≡ true → EndsWith choice s → EndsWith choice (run s ts)
 over-ends s choice ts inside ends = subst (EndsWith choice) (sym (stays-over s ts inside (ends .state))) ends
@@ -117,10 +120,10 @@ over-ends s choice ts inside ends = subst (EndsWith choice) (sym (stays-over s t
 module _ (end te choice : ℕ) (some : eqb choice 0 ≡ false) where
   goes-on : (start : ℕ) (ts : List Timed) → inRange (at end te pause choice going start) ≡ true → InOrder (at end te pause choice going start) (lastTick choice) ts
       → EndsWith choice (run (at end te pause choice going start) ts)
-  unfolding rows findRow applies when both either
+  unfolding when
   goes-on start ts inside order =
       let last = stage (at end te pause choice going start) (at end te over choice goesOn) (record { event = tick; value = 0; least = 75 }) [] ts inside
-      (λ now time. goes (at end te pause choice going start) tick 0 now inside refl refl (early start now 75 time) ∙ rw (waited start now 75 time, some))
+      (λ now time. ap sessionOf (pause-goes-by-the-table te choice start now end .inPause 0 (timely start now 75 time _ refl inside)) ∙ rw (waited start now 75 time, some))
       (subst (λ (b : Bool). InOrder (at end te pause choice going start) (when b [] (record { event = tick; value = 0; least = 75 } ∷ [])) ts) some order) in
       subst (EndsWith choice) (sym (last .same))
       (over-ends (at end te over choice goesOn (last .now)) choice (last .rest) (last .inside) (record { state = refl; chosen = refl; ended = rw some }))
@@ -143,54 +146,51 @@ module _ (end te state event choice start : ℕ) (inside : inRange (at end te st
         let last = stage (at end te state choice going start) (at end te pause choice going) (onCj event) (lastTick choice) ts inside (pauses some) order in
         subst (EndsWith choice) (sym (last .same)) (goes-on end te choice some (last .now) (last .rest) (last .inside) (last .order))
 
--- what each event of the order leads to
+-- what each event of the order leads to, by its line of the table
 module _ (te choice start now : ℕ) where
   to-calling : inRange (at caller te callerStill 0 going start) ≡ true → After 1000 start now → stepped (at caller te callerStill 0 going start) tick 0 now .session ≡ at caller te calling 0 going now
-  unfolding rows findRow applies when both either
-  to-calling inside time = goes (at caller te callerStill 0 going start) tick 0 now inside refl refl (early start now 1000 time) ∙ rw (waited start now 1000 time)
+  unfolding when
+  to-calling inside time = ap sessionOf (caller-goes-by-the-table te 0 start now .still 0 (timely start now 1000 time _ refl inside)) ∙ rw (waited start now 1000 time)
 
   to-quiet : inRange (at caller te calling 0 going start) ≡ true → After 0 start now → stepped (at caller te calling 0 going start) ansam 0 now .session ≡ at caller te quiet 0 going now
-  unfolding rows findRow applies when both either
-  to-quiet inside time = goes (at caller te calling 0 going start) ansam 0 now inside refl refl (early start now 0 time) ∙ rw (waited start now 0 time)
+  to-quiet inside time = ap sessionOf (caller-goes-by-the-table te 0 start now .onAnsam 0 (timely start now 0 time _ refl inside))
 
   to-menu : inRange (at caller te quiet 0 going start) ≡ true → After te start now → stepped (at caller te quiet 0 going start) tick 0 now .session ≡ at caller te menu 0 going now
-  unfolding rows findRow applies when both either
-  to-menu inside time = goes (at caller te quiet 0 going start) tick 0 now inside refl refl (early start now te time) ∙ rw (le-leb 0 (elapsed now start) (omega arith), waited start now te time)
+  unfolding when
+  to-menu inside time = ap sessionOf (caller-goes-by-the-table te 0 start now .inQuiet 0 (timely start now te time _ refl inside)) ∙ rw (waited start now te time)
 
-  to-closing : inRange (at caller te menu 0 going start) ≡ true → eqb choice refusedWith11 ≡ false → isChoice choice ≡ true → After 0 start now → stepped (at caller te menu 0 going start) agreedJm choice now .session ≡ at caller te closing choice going now
-  unfolding rows findRow applies when both either
-  to-closing inside offered okay time = goes (at caller te menu 0 going start) agreedJm choice now inside refl (rw (offered, okay)) (early start now 0 time) ∙ rw (offered, waited start now 0 time, offered)
+  to-closing : inRange (at caller te menu 0 going start) ≡ true → isChoice choice ≡ true → After 0 start now → stepped (at caller te menu 0 going start) agreedJm choice now .session ≡ at caller te closing choice going now
+  to-closing inside okay time = ap sessionOf (caller-goes-by-the-table te 0 start now .onJm choice okay (timely start now 0 time _ refl inside))
 
   closing-clears : inRange (at caller te closing choice going start) ≡ true → eqb choice 0 ≡ true → After 0 start now → stepped (at caller te closing choice going start) cjSent 0 now .session ≡ at caller te over choice cleared now
-  unfolding rows findRow applies when both either
-  closing-clears inside nothing time = goes (at caller te closing choice going start) cjSent 0 now inside refl refl (early start now 0 time) ∙ rw (nothing, waited start now 0 time)
+  unfolding when
+  closing-clears inside nothing time = ap sessionOf (caller-goes-by-the-table te choice start now .onCjSent 0 (timely start now 0 time _ refl inside)) ∙ rw nothing
 
   closing-pauses : inRange (at caller te closing choice going start) ≡ true → eqb choice 0 ≡ false → After 0 start now → stepped (at caller te closing choice going start) cjSent 0 now .session ≡ at caller te pause choice going now
-  unfolding rows findRow applies when both either
-  closing-pauses inside some time = goes (at caller te closing choice going start) cjSent 0 now inside refl refl (early start now 0 time) ∙ rw (some, waited start now 0 time)
+  unfolding when
+  closing-pauses inside some time = ap sessionOf (caller-goes-by-the-table te choice start now .onCjSent 0 (timely start now 0 time _ refl inside)) ∙ rw some
 
   to-answering : inRange (at answerer 0 answererStill 0 going start) ≡ true → After 200 start now → stepped (at answerer 0 answererStill 0 going start) tick 0 now .session ≡ at answerer 0 answering 0 going now
-  unfolding rows findRow applies when both either
-  to-answering inside time = goes (at answerer 0 answererStill 0 going start) tick 0 now inside refl refl (early start now 200 time) ∙ rw (waited start now 200 time)
+  unfolding when
+  to-answering inside time = ap sessionOf (answerer-goes-by-the-table 0 0 start now .still 0 (timely start now 200 time _ refl inside)) ∙ rw (waited start now 200 time)
 
   to-joint : inRange (at answerer 0 answering 0 going start) ≡ true → isChoice choice ≡ true → After 0 start now → stepped (at answerer 0 answering 0 going start) agreedCm choice now .session ≡ at answerer 0 joint choice going now
-  unfolding rows findRow applies when both either
-  to-joint inside okay time = goes (at answerer 0 answering 0 going start) agreedCm choice now inside refl (rw okay) (early start now 0 time) ∙ rw (waited start now 0 time)
+  to-joint inside okay time = ap sessionOf (answerer-goes-by-the-table 0 0 start now .onCm choice okay (timely start now 0 time _ refl inside))
 
   joint-clears : inRange (at answerer 0 joint choice going start) ≡ true → eqb choice 0 ≡ true → After 0 start now → stepped (at answerer 0 joint choice going start) cj 0 now .session ≡ at answerer 0 over choice cleared now
-  unfolding rows findRow applies when both either
-  joint-clears inside nothing time = goes (at answerer 0 joint choice going start) cj 0 now inside refl refl (early start now 0 time) ∙ rw (nothing, waited start now 0 time)
+  unfolding when
+  joint-clears inside nothing time = ap sessionOf (answerer-goes-by-the-table 0 choice start now .onCj 0 (timely start now 0 time _ refl inside)) ∙ rw nothing
 
   joint-pauses : inRange (at answerer 0 joint choice going start) ≡ true → eqb choice 0 ≡ false → After 0 start now → stepped (at answerer 0 joint choice going start) cj 0 now .session ≡ at answerer 0 pause choice going now
-  unfolding rows findRow applies when both either
-  joint-pauses inside some time = goes (at answerer 0 joint choice going start) cj 0 now inside refl refl (early start now 0 time) ∙ rw (some, waited start now 0 time)
+  unfolding when
+  joint-pauses inside some time = ap sessionOf (answerer-goes-by-the-table 0 choice start now .onCj 0 (timely start now 0 time _ refl inside)) ∙ rw some
 
   joint-to-pause : inRange (at answerer 0 joint choice going start) ≡ true → isItem choice ≡ true → After 0 start now → stepped (at answerer 0 joint choice going start) sigC choice now .session ≡ at answerer 0 pause choice going now
-  unfolding rows findRow applies when both either
-  joint-to-pause inside chosen time = goes (at answerer 0 joint choice going start) sigC choice now inside refl chosen (early start now 0 time) ∙ rw (eq-eqb choice choice refl, waited start now 0 time)
+  unfolding when
+  joint-to-pause inside chosen time = ap sessionOf (answerer-goes-by-the-table 0 choice start now .onChosenSigC choice chosen (timely start now 0 time _ refl inside)) ∙ rw (eq-eqb choice choice refl)
 
 -- the caller's order leads it to its end
-module _ (start te choice : ℕ) (given : isTe te ≡ true) (okay : isChoice choice ≡ true) (offered : eqb choice refusedWith11 ≡ false) where
+module _ (start te choice : ℕ) (given : isTe te ≡ true) (okay : isChoice choice ≡ true) where
   caller-starts : inRange (callerFrom start te) ≡ true
   unfolding inRange when both either
   caller-starts = rw given
@@ -200,7 +200,7 @@ module _ (start te choice : ℕ) (given : isTe te ≡ true) (okay : isChoice cho
       let at-calling = stage (callerFrom start te) (at caller te calling 0 going) _ _ ts caller-starts (λ now time. to-calling te choice start now caller-starts time) order in
       let at-quiet = stage (at caller te calling 0 going (at-calling .now)) (at caller te quiet 0 going) _ _ (at-calling .rest) (at-calling .inside) (λ now time. to-quiet te choice (at-calling .now) now (at-calling .inside) time) (at-calling .order) in
       let at-menu = stage (at caller te quiet 0 going (at-quiet .now)) (at caller te menu 0 going) _ _ (at-quiet .rest) (at-quiet .inside) (λ now time. to-menu te choice (at-quiet .now) now (at-quiet .inside) time) (at-quiet .order) in
-      let at-closing = stage (at caller te menu 0 going (at-menu .now)) (at caller te closing choice going) _ _ (at-menu .rest) (at-menu .inside) (λ now time. to-closing te choice (at-menu .now) now (at-menu .inside) offered okay time) (at-menu .order) in
+      let at-closing = stage (at caller te menu 0 going (at-menu .now)) (at caller te closing choice going) _ _ (at-menu .rest) (at-menu .inside) (λ now time. to-closing te choice (at-menu .now) now (at-menu .inside) okay time) (at-menu .order) in
       subst (EndsWith choice) (sym (at-calling .same ∙ at-quiet .same ∙ at-menu .same ∙ at-closing .same))
       (closes-by caller te closing cjSent choice (at-closing .now) (at-closing .inside)
       (λ nothing now time. closing-clears te choice (at-closing .now) now (at-closing .inside) nothing time)
@@ -230,7 +230,7 @@ module _ (start choice : ℕ) (okay : isChoice choice ≡ true) where
 
 -- what a choice is carried with can be carried, is not "refused with 11", and is 0 for none alone
 abbrev fits : Chosen → Bool
-fits c = both (isChoice (carried c)) (both (not (eqb (carried c) refusedWith11)) (when (eqb (carried c) 0) (eqb (kindOf c) 0) (isMode (carried c))))
+fits c = both (isChoice (carried c)) (when (eqb (carried c) 0) (eqb (kindOf c) 0) (isMode (carried c)))
 
 item-fits : (i : ℕ) → 0 < i → i < 13 → fits (item i) ≡ true
 unfolding when both either allBelow
@@ -260,7 +260,7 @@ kind-none (pcm options) h = absurd (omega (arith, h))
 kind-none (choosing.refusal n) h = absurd (omega (arith, h))
 
 fits-mode : (c : Chosen) → fits c ≡ true → when (eqb (carried c) 0) (eqb (kindOf c) 0) (isMode (carried c)) ≡ true
-fits-mode c fit = both-true _ _ (both-true _ _ fit .1) .1
+fits-mode c fit = both-true _ _ fit .1
 
 none-by : (c : Chosen) → fits c ≡ true → carried c ≡ 0 → c ≡ none
 none-by c fit z =
@@ -302,9 +302,8 @@ module _ (calls answers : Record) (function : ℕ) (call : Call calls answers fu
       → BothEndWith (carried (callerNames calls function heardJm)) calls answers function callerStart te answererStart callerEvents answererEvents
   both-ends-end-with-the-named-choice callerStart te answererStart callerEvents answererEvents last given callerOrdered closing answererOrdered =
       let tests = both-true _ _ named-fits in
-      let rest = both-true _ _ (tests .1) in
       record {
-        calling = caller-ends callerStart te (carried named) given (tests .0) (not-true _ (rest .0)) callerEvents callerOrdered;
+        calling = caller-ends callerStart te (carried named) given (tests .0) callerEvents callerOrdered;
         answering =
             subst (λ (choice : ℕ). EndsWith choice (run (answererFrom answererStart) answererEvents)) (sym carried-alike)
             (answerer-ends answererStart (carried (answererNames answers heardCm)) (sym (ap isChoice carried-alike) ∙ tests .0) last answererEvents closing answererOrdered);

@@ -7,10 +7,10 @@ pub mod Shared
 pub mod Joint
 pub mod OneChoice
 pub mod Undefined
+pub mod TableLines
 pub mod WholeCall
 pub mod AnyEvents
 pub mod CallsHappen
-pub mod TableLines
 pub mod FromBits
 pub mod Numbers
 pub mod Repeated
