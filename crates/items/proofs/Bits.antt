@@ -1,9 +1,11 @@
 -- The bits of a number, and so the items of a set: one by one, in two sets, below and at a weight.
 -- Assumes nothing.
-use Prim.Native.Nat.{ℕ, zero, suc, _<_, _+_, _*_, _/_, _%_, _^_, min}
+use Prim.Native.Nat.{ℕ, zero, suc, _<_, _≤_, _+_, _*_, _/_, _%_, _^_, min}
 use native.Mathlib.Nat.{div-one, div-div-eq-div-mul, zero-min, min-le-left, not-suc-le-zero, le-of-suc-le-suc}
 use native.Mathlib.Omega.{arith}
 use mathlib.Core.Path.{_≡_, refl, sym, ap, _∙_}
+use mathlib.Core.Bool.{false}
+use borrow.Author.Tests.{eqb-false}
 use lib.Bits.{bitAnd, and-step, block-half, block-odd}
 use lib.Dec.{eqb}
 use Rattle.laws.specs.Logic.{both}
@@ -15,6 +17,30 @@ bit-first n = ap (λ (k : ℕ). k % 2) (div-one n)
 
 bit-next : (i n : ℕ) → bitOf (suc i) n ≡ bitOf i (n / 2)
 bit-next i n = let twice : 2 ^ suc i ≡ 2 * 2 ^ i = omega arith in ap (λ (k : ℕ). n / k % 2) twice ∙ ap (λ (k : ℕ). k % 2) (sym (div-div-eq-div-mul n 2 (2 ^ i)))
+
+-- item 0 of a set, and a later one in half the set
+pub first-item : (items : ℕ) → inSet items 0 ≡ eqb (items % 2) 1
+unfolding inSet
+first-item items = ap (λ (k : ℕ). eqb k 1) (bit-first items)
+
+later-item : (i items : ℕ) → inSet items (suc i) ≡ inSet (items / 2) i
+unfolding inSet
+later-item i items = ap (λ (k : ℕ). eqb k 1) (bit-next i items)
+
+-- a set without items is 0: by halves, of which there are no more than its number
+empty-by : (size items : ℕ) → items ≤ size → ((i : ℕ) → inSet items i ≡ false) → items ≡ 0
+empty-by zero items h none = omega (arith, h)
+empty-by (suc size) items h none =
+    let even : items % 2 ≡ 0 = omega (arith, eqb-false (items % 2) 1 (sym (first-item items) ∙ none 0)) in
+    let half : items / 2 ≡ 0 = empty-by size (items / 2) (omega (arith, h)) (λ i. sym (later-item i items) ∙ none (suc i)) in
+    omega (arith, even, half)
+
+-- a set without items from n on is below the weight of n
+pub set-within : (n items : ℕ) → ((i : ℕ) → n ≤ i → inSet items i ≡ false) → items < 2 ^ n
+set-within zero items none = omega (arith, empty-by items items (omega arith) (λ i. none i (omega arith)))
+set-within (suc n) items none =
+    let half : items / 2 < 2 ^ n = set-within n (items / 2) (λ i h. sym (later-item i items) ∙ none (suc i) (omega (arith, h))) in
+    omega (arith, half)
 
 -- two bits that are 1
 min-bits : (a b : ℕ) → a < 2 → b < 2 → eqb (min a b) 1 ≡ both (eqb a 1) (eqb b 1)

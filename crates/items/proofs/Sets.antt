@@ -39,10 +39,10 @@ pub none-in : (i : ℕ) → inSet 0 i ≡ false
 unfolding inSet
 none-in i = let none : 0 / 2 ^ i ≡ 0 = zero-div (2 ^ i) in simp none
 
--- no item above 15 is in a set of 16 bits
-pub past-set : (items i : ℕ) → items < 65536 → 16 ≤ i → inSet items i ≡ false
+-- no item from n on is in a set below the weight of n
+pub past-set : (n items i : ℕ) → items < 2 ^ n → n ≤ i → inSet items i ≡ false
 unfolding inSet
-past-set items i small h =
+past-set n items i small h =
     let none : items / 2 ^ i ≡ 0 = div-eq-of-lt (lt-of-lt-of-le small (pow-mono h)) in
     simp none
 

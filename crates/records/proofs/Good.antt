@@ -12,11 +12,11 @@ use Rattle.laws.specs.Logic.{when, either}
 use Rattle.laws.proofs.Logic.{either-way, either-false, clash}
 use Rattle.records.specs.declared.Modes.{Modes}
 use Rattle.records.specs.declared.Record.{Record}
-use Rattle.records.specs.Record.{flag, noModes, modesAt, inUse, lacksItem1, badModes, anyBad, badRecord}
+use Rattle.records.specs.Record.{flag, noModes, modesAt, inUse, lacksItem1, badModes, anyBad, badFlags, badRecord}
 use Rattle.records.proofs.Functions.{modes-past}
 
 -- no function of it is bad
-each-good : (functions : List Modes) (n : ℕ) → anyBad functions ≡ false → badModes (getD functions n noModes) ≡ false
+pub each-good : (functions : List Modes) (n : ℕ) → anyBad functions ≡ false → badModes (getD functions n noModes) ≡ false
 unfolding anyBad when either
 each-good [] n h = refl
 each-good (modes ∷ rest) zero h = either-false (badModes modes) (anyBad rest) h .0
@@ -32,10 +32,25 @@ item-1-there pcm items h some = either-way (λ (b : Bool). b ≡ false → eqb (
 
 -- what the test leaves
 pub record Good (modes : Modes) : Type 0 where
+  pub available : modes .available ≤ 1
   pub items : modes .items < 8192
   pub none : modes .items % 2 ≡ 0
   pub pcm : modes .pcm < 8
   pub item-1 : (modes .pcm % 4 ≡ 0 → ⊥) → modes .items / 2 % 2 ≡ 1
+
+pub left-good : (modes : Modes) → badModes modes ≡ false → Good modes
+left-good modes good =
+    let available = either-false _ _ good in
+    let all = either-false _ _ (available .1) in
+    let outside = either-false _ _ (all .0) in
+    let pcm = either-false _ _ (all .1) in
+    record {
+      available = ltb-false 1 (modes .available) (available .0);
+      items = leb-false _ _ (outside .1);
+      none = omega (arith, eqb-false (modes .items % 2) 1 (outside .0));
+      pcm = omega (arith, ltb-false 7 (modes .pcm) (pcm .0));
+      item-1 = λ some. omega (arith, eqb-false (modes .items / 2 % 2) 0 (item-1-there (modes .pcm) (modes .items) (pcm .1) some));
+    }
 
 module _ (rec : Record) (good : badRecord rec ≡ false) where
   pub good-home : (inUse rec (rec .home) .available ≡ 1) × (anyBad (rec .functions) ≡ false)
@@ -44,18 +59,12 @@ module _ (rec : Record) (good : badRecord rec ≡ false) where
       either-way (λ (b : Bool). b ≡ false → (inUse rec (rec .home) .available ≡ 1) × (anyBad (rec .functions) ≡ false)) _ _ _
       (λ t h. (eqb-true _ _ t, either-false _ _ h .1)) (λ _ h. clash h) good
 
+  pub good-flags : badFlags rec ≡ false
+  unfolding badRecord
+  good-flags = either-way (λ (b : Bool). b ≡ false → badFlags rec ≡ false) _ _ _ (λ _ h. either-false _ _ h .0) (λ _ h. clash h) good
+
   pub good-modes : (f : ℕ) → Good (inUse rec f)
-  good-modes f =
-      let used = inUse rec f in
-      let all = either-false _ _ (either-false _ _ (used-good (rec .functions) f (good-home .1)) .1) in
-      let outside = either-false _ _ (all .0) in
-      let pcm = either-false _ _ (all .1) in
-      record {
-        items = leb-false _ _ (outside .1);
-        none = omega (arith, eqb-false (used .items % 2) 1 (outside .0));
-        pcm = omega (arith, ltb-false 7 (used .pcm) (pcm .0));
-        item-1 = λ some. omega (arith, eqb-false (used .items / 2 % 2) 0 (item-1-there (used .pcm) (used .items) (pcm .1) some));
-      }
+  good-modes f = left-good (inUse rec f) (used-good (rec .functions) f (good-home .1))
 
 -- only a function of the record is available
 within-by : (functions : List Modes) (f : ℕ) (past : Bool) → ltb (length functions) f ≡ past → modesAt functions f .available ≡ 1 → f ≤ length functions

@@ -19,7 +19,7 @@ unfolding inSet
 returns c = refl
 
 returns-2 : tie.Need-returns-2
-returns-2 c = le-ltb _ _ (c .if1 .left) ∙ sym (past-set (c .before .before .args .items) (c .before .before .args .item .0) (search needs) (c .if1 .left))
+returns-2 c = le-ltb _ _ (c .if1 .left) ∙ sym (past-set 16 (c .before .before .args .items) (c .before .before .args .item .0) (search needs) (c .if1 .left))
 
 pub in-set-spec : {M : Type 1} → statement M
 in-set-spec = tie.close (tie.spec cast-result shr-result returns returns-2)
