@@ -10,7 +10,7 @@ use mathlib.Core.List.{List}
 use borrow.Author.Tests.{eq-eqb, ne-eqb, eqb-true}
 use lib.Dec.{ltb, eqb, lit<}
 use Rattle.laws.specs.Logic.{when, both, either}
-use Rattle.laws.proofs.Logic.{bit-of-test}
+use Rattle.laws.proofs.Logic.{both-neither, bit-of-test}
 use Rattle.menus.specs.declared.Offer.{Offer}
 use Rattle.items.specs.Items.{inSet}
 use Rattle.menus.specs.Offer.{offerOf, offers}
@@ -25,7 +25,7 @@ use Rattle.menus.specs.Pcm.{analogue, digital, v91, paired}
 use Rattle.offers.proofs.Making.{bit-small}
 use Rattle.offers.proofs.Meaning.{menu-readable, menu-writable, read-back}
 use Rattle.offers.proofs.Saying.{cm-sayable, jm-sayable}
-use Rattle.demands.specs.Joint.{AcceptedRecord, cmOf, jmOf, has, filledIn, isAvailable, hasFor, pcmFor, saysCellular, HoldsWhatBothHave, HoldsWhatBothRecordsHave, IsReadBack}
+use Rattle.demands.specs.Joint.{AcceptedRecord, cmOf, jmOf, has, filledIn, isAvailable, hasFor, pcmFor, saysCellular, SaysWhatTheRecordHas, HoldsWhatBothHave, HoldsWhatBothRecordsHave, IsReadBack}
 use Rattle.demands.specs.OneChoice.{Call}
 use Rattle.demands.proofs.Shared.{has-read, crosswise}
 
@@ -98,6 +98,29 @@ b5-told true false true = refl
 b5-told true false false = refl
 b5-told false cellular digital = refl
 
+-- and each of its options: 1 where the group is there and its test holds
+where-there : (there b : Bool) (told k : ℕ) → inSet told k ≡ b → inSet (when there told 0) k ≡ both there b
+unfolding when both
+where-there true b told k e = e
+where-there false b told k e = none-in k
+
+module _ (there b5 b6 b7 : Bool) where
+  abbrev told : ℕ
+  told = bit b5 + 2 * bit b6 + 4 * bit b7
+
+  as-told : (k : ℕ) (b : Bool) → told / 2 ^ k % 2 ≡ bit b → inSet (accessOptions there (bit b5) (bit b6) (bit b7)) k ≡ both there b
+  unfolding inSet
+  as-told k b e = where-there there b told k (ap (λ (n : ℕ). eqb n 1) e ∙ bit-of-test b .1)
+
+  b5-there : inSet (accessOptions there (bit b5) (bit b6) (bit b7)) 0 ≡ both there b5
+  b5-there = as-told 0 b5 (omega (arith, bit-small b5, bit-small b6, bit-small b7))
+
+  b6-there : inSet (accessOptions there (bit b5) (bit b6) (bit b7)) 1 ≡ both there b6
+  b6-there = as-told 1 b6 (omega (arith, bit-small b5, bit-small b6, bit-small b7))
+
+  b7-there : inSet (accessOptions there (bit b5) (bit b6) (bit b7)) 2 ≡ both there b7
+  b7-there = as-told 2 b7 (omega (arith, bit-small b5, bit-small b6, bit-small b7))
+
 -- b5 and b6 go with item 1, b7 without
 crossed : (t : Bool) (theirs ours : ℕ) →
     (analogue (withItem1 t (paired theirs ours)) ≡ bit t * (analogue ours * digital theirs))
@@ -141,7 +164,35 @@ both-swap true false = refl
 both-swap false true = refl
 both-swap false false = refl
 
--- from both records: what the CM says is the caller's record, read back
+-- what the CM says is the record, read back
+module _ (own : Record) (good : AcceptedRecord own) (function : ℕ) (available : isAvailable own function ≡ true) where
+  pub says : offerOf (cmOf own function) ≡ cmOffer own function
+  says = cm-back own good function (eqb-true _ 1 (sym (available-used own function) ∙ available))
+
+  said : {A : Type 0} (part : Offer → A) → part (offerOf (cmOf own function)) ≡ part (cmOffer own function)
+  said part = ap part says
+
+  pub cm-says-what-the-record-has : SaysWhatTheRecordHas own function (cmOf own function)
+  unfolding when
+  cm-says-what-the-record-has =
+      let pcm = inUse own function .pcm in
+      let used = pcm-used own function in
+      let options-are : (k : ℕ) → inSet (offerOf (cmOf own function) .«access_options») k ≡ inSet (accessOptions (offerOf (cmOf own function) .access) (bit (flag (own .cellular))) (bit false) (bit (flag (own .digital)))) k =
+      λ k. said (λ o. inSet (o .«access_options») k) ∙ ap (λ (t : Bool). inSet (accessOptions t (bit (flag (own .cellular))) 0 (bit (flag (own .digital)))) k) (sym (said (λ o. o .access))) in
+      let b6-none : both (offerOf (cmOf own function) .access) false ≡ false = both-neither (offerOf (cmOf own function) .access) in
+      record {
+        named = said (λ o. o .function);
+        items = λ i low high. has-read (cmOf own function) i high ∙ said (λ o. inSet (o .items) i) ∙ beside-item-0 (ltb 0 pcm) (inUse own function .items) i low ∙ sym (has-used own function i);
+        pcm = said (λ o. o .pcm) ∙ sym used;
+        item0 = has-read (cmOf own function) 0 (lit< tt) ∙ said (λ o. inSet (o .items) 0) ∙ item-0-told (ltb 0 pcm) (inUse own function .items) ∙ ap (λ (n : ℕ). ltb 0 n) (sym used);
+        lapm = said (λ o. o .lapm);
+        access = said (λ o. o .access) ∙ ap (λ (n : ℕ). either (flag (own .access)) (ltb 0 n)) (sym used);
+        accessB5 = options-are 0 ∙ b5-there _ (flag (own .cellular)) false (flag (own .digital));
+        accessB6 = options-are 1 ∙ b6-there _ (flag (own .cellular)) false (flag (own .digital)) ∙ b6-none;
+        accessB7 = options-are 2 ∙ b7-there _ (flag (own .cellular)) false (flag (own .digital));
+      }
+
+-- from both records
 module _ (caller answerer : Record) (function : ℕ) (call : Call caller answerer function) where
   abbrev cm : Offer
   cm = cmOffer caller function
@@ -153,21 +204,15 @@ module _ (caller answerer : Record) (function : ℕ) (call : Call caller answere
   answered = jmOf answerer sent
 
   asked-for : offerOf sent ≡ cm
-  asked-for = cm-back caller (call .calling) function (eqb-true _ 1 (sym (available-used caller function) ∙ call .available))
+  asked-for = says caller (call .calling) function (call .available)
 
   answered-with : offerOf answered ≡ jmOffer answerer cm
   answered-with = jm-back answerer (call .answering) sent ∙ ap (jmOffer answerer) asked-for
 
-  cm-has : (i : ℕ) → 0 < i → i < 13 → has sent i ≡ hasFor caller function i
-  cm-has i low high =
-      has-read sent i high ∙ ap (λ (o : Offer). inSet (o .items) i) asked-for
-      ∙ beside-item-0 (ltb 0 (inUse caller function .pcm)) (inUse caller function .items) i low
-      ∙ sym (has-used caller function i)
-
   from-records : (i : ℕ) → 0 < i → i < 13 → has answered i ≡ both (hasFor caller function i) (hasFor answerer function i)
   from-records i low high =
       jm-holds-what-both-have answerer (call .answering) sent .items i low high
-      ∙ ap₂ both (ap (λ (o : Offer). hasFor answerer (o .function) i) asked-for) (cm-has i low high)
+      ∙ ap₂ both (ap (λ (o : Offer). hasFor answerer (o .function) i) asked-for) (cm-says-what-the-record-has caller (call .calling) function (call .available) .items i low high)
       ∙ both-swap (hasFor answerer function i) (hasFor caller function i)
 
   -- the PCM options, with what the CM says put in
@@ -193,6 +238,15 @@ module _ (caller answerer : Record) (function : ℕ) (call : Call caller answere
       ap (λ (o : Offer). o .access) answered-with
       ∙ ap₂ (λ (said there : Bool). either (flag (answerer .access)) (either said there)) cellular-said (sym pcm-there)
 
+  abbrev there : Bool
+  there = offerOf answered .access
+
+  options-are : (k : ℕ) → inSet (offerOf answered .«access_options») k ≡ inSet (accessOptions there (bit (saysCellular caller function)) (bit (flag (answerer .cellular))) (bit (flag (answerer .digital)))) k
+  options-are k =
+      ap (λ (n : ℕ). inSet n k)
+      (ap (λ (o : Offer). o .«access_options») answered-with
+      ∙ ap₂ (λ (t : Bool) (b5 : ℕ). accessOptions t b5 (bit (flag (answerer .cellular))) (bit (flag (answerer .digital)))) (sym (ap (λ (o : Offer). o .access) answered-with)) b5-theirs)
+
   pub jm-holds-what-both-records-have : HoldsWhatBothRecordsHave caller answerer function (jmOf answerer (cmOf caller function))
   jm-holds-what-both-records-have =
       let bits = crossed (both (hasFor caller function 1) (hasFor answerer function 1)) (pcmFor caller function) (pcmFor answerer function) in
@@ -205,8 +259,7 @@ module _ (caller answerer : Record) (function : ℕ) (call : Call caller answere
         item0 = has-read answered 0 (lit< tt) ∙ ap (λ (o : Offer). inSet (o .items) 0) answered-with ∙ item-0-told (ltb 0 (jmPcm (inUse answerer function) cm)) (sharedItems (inUse answerer function) cm) ∙ sym pcm-there;
         lapm = ap (λ (o : Offer). o .lapm) answered-with;
         access = access-there;
-        options =
-            ap (λ (o : Offer). o .«access_options») answered-with
-            ∙ ap₂ (λ (there : Bool) (b5 : ℕ). accessOptions there b5 (bit (flag (answerer .cellular))) (bit (flag (answerer .digital))))
-            (sym (ap (λ (o : Offer). o .access) answered-with)) b5-theirs;
+        accessB5 = options-are 0 ∙ b5-there there (saysCellular caller function) (flag (answerer .cellular)) (flag (answerer .digital));
+        accessB6 = options-are 1 ∙ b6-there there (saysCellular caller function) (flag (answerer .cellular)) (flag (answerer .digital));
+        accessB7 = options-are 2 ∙ b7-there there (saysCellular caller function) (flag (answerer .cellular)) (flag (answerer .digital));
       }

@@ -63,6 +63,22 @@ pub record HoldsWhatBothHave (own : Record) (heard : List ℕ) : Type 0 where
   -- "b7 if both have V.91"
   pub b7 : v91 (offerOf (jmOf own heard) .pcm) ≡ v91 (pcmFor own (offerOf heard .function)) * v91 (offerOf heard .pcm)
 
+-- the CM of a record, from what the record has
+pub record SaysWhatTheRecordHas (own : Record) (function : ℕ) (cm : List ℕ) : Type 0 where
+  pub named : offerOf cm .function ≡ function
+  -- "CM for an available function: its items"
+  pub items : (i : ℕ) → 0 < i → i < 13 → has cm i ≡ hasFor own function i
+  -- "PCM if its options aren't 0, with item 0 then set"
+  pub pcm : offerOf cm .pcm ≡ pcmFor own function
+  pub item0 : has cm 0 ≡ ltb 0 (pcmFor own function)
+  -- "LAPM if wanted"
+  pub lapm : offerOf cm .lapm ≡ flag (own .lapm)
+  -- "access if wanted or PCM is there, b5 cellular, b6 0, b7 digital"
+  pub access : offerOf cm .access ≡ either (flag (own .access)) (ltb 0 (pcmFor own function))
+  pub accessB5 : inSet (offerOf cm .«access_options») 0 ≡ both (offerOf cm .access) (flag (own .cellular))
+  pub accessB6 : inSet (offerOf cm .«access_options») 1 ≡ false
+  pub accessB7 : inSet (offerOf cm .«access_options») 2 ≡ both (offerOf cm .access) (flag (own .digital))
+
 -- "their b5 is 1": the caller is cellular, and its CM has an access group to say so
 abbrev pub saysCellular : Record → ℕ → Bool
 saysCellular caller function = both (cmAccess caller (pcmFor caller function)) (flag (caller .cellular))
@@ -84,7 +100,9 @@ pub record HoldsWhatBothRecordsHave (caller answerer : Record) (function : ℕ) 
   pub lapm : offerOf jm .lapm ≡ both (flag (caller .lapm)) (flag (answerer .lapm))
   -- "Access if wanted, if their b5 is 1, or with PCM: b5 as theirs (0 if absent), b6 cellular, b7 digital."
   pub access : offerOf jm .access ≡ either (flag (answerer .access)) (either (saysCellular caller function) (ltb 0 (offerOf jm .pcm)))
-  pub options : offerOf jm .«access_options» ≡ accessOptions (offerOf jm .access) (bit (saysCellular caller function)) (bit (flag (answerer .cellular))) (bit (flag (answerer .digital)))
+  pub accessB5 : inSet (offerOf jm .«access_options») 0 ≡ both (offerOf jm .access) (saysCellular caller function)
+  pub accessB6 : inSet (offerOf jm .«access_options») 1 ≡ both (offerOf jm .access) (flag (answerer .cellular))
+  pub accessB7 : inSet (offerOf jm .«access_options») 2 ≡ both (offerOf jm .access) (flag (answerer .digital))
 
 -- a menu that the writer accepts, and that is read as what was meant
 pub record IsReadBack (menu : List ℕ) (meant : Offer) : Type 0 where
