@@ -5,6 +5,7 @@ pub mod RefusalOrder
 pub mod NotRefused
 pub mod Shared
 pub mod Joint
+pub mod Looking
 pub mod BadRecord
 pub mod OneChoice
 pub mod Undefined

@@ -17,7 +17,7 @@ use Rattle.menus.specs.Offer.{offerOf, offers, menuRead}
 use Rattle.records.specs.declared.Record.{Record}
 use Rattle.records.specs.declared.Modes.{Modes}
 use Rattle.records.specs.Record.{flag, noModes, badRecord}
-use Rattle.offers.specs.Offering.{bit, accessOptions, cmAccess, cmOffer, jmOffer}
+use Rattle.offers.specs.Offering.{bit, cmAccess, cmOffer, jmOffer}
 use Rattle.menus.specs.Pcm.{analogue, digital, v91}
 use Rattle.offers.specs.Making.{menuOf}
 
