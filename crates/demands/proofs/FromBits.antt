@@ -14,6 +14,7 @@ use Rattle.laws.specs.Front.{front}
 use Rattle.laws.specs.Joined.{joined}
 use Rattle.laws.specs.Tests.{every}
 use Rattle.laws.proofs.Computed.{every-joined}
+use Rattle.laws.proofs.Logic.{clash}
 use Rattle.octets.specs.declared.Kind.the-variants.{Menu}
 use Rattle.octets.specs.declared.Purpose.the-variants.{Writing}
 use Rattle.octets.specs.Octets.{callFunctionTag, categoryOctet}
@@ -85,9 +86,10 @@ heard-copies octets bits small sends = ap (reports fresh) (sym (sends .stands)) 
 
 agreed-again : (n : ℕ) (heard octets : List ℕ) → Agreed heard (replicate n (message Menu octets true)) → heard ≡ octets
 agreed-again (suc n) heard octets here = refl
+agreed-again (suc n) heard octets (later unlike rest) = clash unlike
 
 agreed-as : (n : ℕ) (heard octets : List ℕ) → Agreed heard (repeated Menu octets n) → heard ≡ octets
-agreed-as (suc n) heard octets (later rest) = agreed-again n heard octets rest
+agreed-as (suc n) heard octets (later unlike rest) = agreed-again n heard octets rest
 
 heard-as : (octets bits heard : List ℕ) → octetsAll octets ≡ true → Sends octets bits → Agreed heard (reports fresh bits) → heard ≡ octets
 heard-as octets bits heard small sends agreed = agreed-as (sends .copies) heard octets (subst (Agreed heard) (heard-copies octets bits small sends) agreed)
@@ -137,7 +139,7 @@ sends-it octets fine =
     record { copies = 2; two = omega arith; lent = line; size = length line; told = told; stands = ap (λ (l : List ℕ). l ++ tenOnes) (counted f line line (length line) told .stands) }
 
 agrees-it : (octets : List ℕ) → octetsAll octets ≡ true → listFault (Writing Menu) octets ≡ 0 → Agreed octets (reports fresh (copies 2 (sequence Menu octets) ++ tenOnes))
-agrees-it octets small fine = rw (copies-read Menu octets (record { octet = small; taken = fine }) 2) (later here)
+agrees-it octets small fine = rw (copies-read Menu octets (record { octet = small; taken = fine }) 2) (later refl here)
 
 pub exchange-happens : (caller answerer : Record) (function : ℕ) → Call caller answerer function → Exchange caller answerer function
 unfolding when

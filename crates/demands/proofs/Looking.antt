@@ -165,6 +165,7 @@ module _ (octets : List ℕ) (read : listFault Reading octets ≡ 0) where
     withAccess = λ p e. first-octet access p e .0;
     accessOptions = λ p e. first-octet access p e .1;
     noAccess = λ e. ap stands (group-missing access e);
+    noOptions = λ e. ap optionsIn (group-missing access e);
   }
 
 by-one : (n : ℕ) → n / 1 ≡ n

@@ -2,7 +2,7 @@
 -- to. So the menus that the whole call takes as heard are those that the bits bring.
 use Prim.Native.Nat.{ℕ, _≤_}
 use mathlib.Core.Path.{_≡_}
-use mathlib.Core.Bool.{true, false}
+use mathlib.Core.Bool.{Bool, true, false}
 use mathlib.Core.List.{List, _∷_, _++_}
 use lib.ListN.{take}
 use Rattle.octets.specs.declared.Kind.the-variants.{Menu}
@@ -10,7 +10,7 @@ use Rattle.sequences.specs.Line.{tenOnes}
 use Rattle.sequences.specs.Writing.{written}
 use Rattle.refusals.specs.Lent.{count, WriteOutcome}
 use Rattle.listening.specs.Record.{fresh}
-use Rattle.stretches.specs.Hearing.{Report, message, reports}
+use Rattle.stretches.specs.Hearing.{Report, message, cj, refusal, reports}
 use Rattle.records.specs.declared.Record.{Record}
 use Rattle.offers.specs.Making.{madeCm, madeJm}
 use Rattle.steps.specs.Session.{isTe, callerFrom, answererFrom}
@@ -33,10 +33,15 @@ pub record Sends (octets bits : List ℕ) : Type 0 where
   pub told : written Menu octets copies lent .answer ≡ count size
   pub stands : take size (written Menu octets copies lent .buffer) ++ tenOnes ≡ bits
 
--- what the other end hears: the first agreed menu among its reports has these octets
+-- what the other end hears: the first agreed menu among its reports, whatever they are, has these octets
+abbrev pub isAgreed : Report → Bool
+isAgreed (message kind octets flag) = flag
+isAgreed cj = false
+isAgreed (refusal n) = false
+
 pub data Agreed (octets : List ℕ) : List Report → Type 0 where
   here : {later : List Report} → Agreed octets (message Menu octets true ∷ later)
-  later : {other : List ℕ} {rest : List Report} → Agreed octets rest → Agreed octets (message Menu other false ∷ rest)
+  later : {other : Report} {rest : List Report} → isAgreed other ≡ false → Agreed octets rest → Agreed octets (other ∷ rest)
 
 -- a call: the caller makes CM and sends it; the answerer agrees a CM, makes JM for it and sends it; the caller agrees a JM
 pub record Exchange (caller answerer : Record) (function : ℕ) : Type 0 where

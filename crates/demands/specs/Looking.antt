@@ -56,6 +56,7 @@ pub record ReadsWhatIsFound (octets : List ℕ) : Type 0 where
   pub withAccess : (p : ℕ) → looked octets access ≡ place p → offerOf octets .access ≡ true
   pub accessOptions : (p : ℕ) → looked octets access ≡ place p → offerOf octets .«access_options» ≡ options (getD octets p 0)
   pub noAccess : looked octets access ≡ nowhere → offerOf octets .access ≡ false
+  pub noOptions : looked octets access ≡ nowhere → offerOf octets .«access_options» ≡ 0
 
 -- "Items 0, 1, 2 are b5, b6, b7 of the modulation category octet. Items 3 to 7 are b0, b1, b2, b6, b7 of the first extension octet, items 8 to
 -- 12 the same bits of the second."; a group that is shorter lacks the others
