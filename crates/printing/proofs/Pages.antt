@@ -4,8 +4,8 @@ use Prim.Native.Nat.{ℕ, _<_, _≤_, _+_, _-_, _^_}
 use native.Mathlib.Nat.{pow-le-pow-right}
 use native.Mathlib.Numerals.{add-one}
 use native.Mathlib.Omega.{arith}
-use mathlib.Core.Path.{_≡_, sym, ap, subst, _∙_}
-use mathlib.Core.List.{List, [], _∷_}
+use mathlib.Core.Path.{_≡_, refl, sym, ap, subst, _∙_}
+use mathlib.Core.List.{List, [], _∷_, _++_}
 use borrow.Author.Tests.{ltb-true}
 use lib.Dec.{ltb, lit<}
 use lib.ListN.{length, drop, getD, set, length-set, drop-of-length-le}
@@ -23,6 +23,31 @@ module _ (p : Page) (text : List ℕ) (i : ℕ) where
   pub typed-end : length text ≤ i → typed p (drop i text) ≡ p
   unfolding typed
   typed-end over = simp (drop-of-length-le text over)
+
+-- two texts, one behind the other
+pub typed-joined : (p : Page) (a b : List ℕ) → typed p (a ++ b) ≡ typed (typed p a) b
+unfolding typed
+typed-joined p [] b = refl
+typed-joined p (x ∷ a) b = typed-joined (struck p x) a b
+
+-- who types one text and then another has typed both
+pub typed-then : (p : Page) (a b : List ℕ) {q s : Page} → q ≡ typed p a → s ≡ typed q b → s ≡ typed p (a ++ b)
+typed-then p a b first second = second ∙ ap (λ (x : Page). typed x b) first ∙ sym (typed-joined p a b)
+
+-- typing leaves a buffer as long as it was
+struck-long : (p : Page) (b : ℕ) → length (struck p b .buffer) ≡ length (p .buffer)
+struck-long p b =
+    either-way (λ (q : Page). length (q .buffer) ≡ length (p .buffer)) (ltb (p .at) (length (p .buffer))) (page (set (p .buffer) (p .at) b) (p .at + 1)) p
+    (λ has-room. length-set (p .buffer) (p .at) b)
+    (λ full. refl)
+
+typed-long : (p : Page) (text : List ℕ) → length (typed p text .buffer) ≡ length (p .buffer)
+unfolding typed
+typed-long p [] = refl
+typed-long p (b ∷ text) = typed-long (struck p b) text ∙ struck-long p b
+
+pub text-long : (p q : Page) (text : List ℕ) → q ≡ typed p text → length (q .buffer) ≡ length (p .buffer)
+text-long p q text is-typed = ap (λ (x : Page). length (x .buffer)) is-typed ∙ typed-long p text
 
 -- the place is within the buffer, or right behind it
 abbrev Within : Page → Type 0

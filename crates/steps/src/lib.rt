@@ -320,7 +320,8 @@ fn is_choice(value: u8) -> bool
     value == NONE || (is_item(value) || is_between(FIRST_PCM, LAST_PCM, value))
 }
 
-fn is_te(te: u32) -> bool
+// Te within its range.
+pub fn is_te(te: u32) -> bool
     ensures { λ r. ⌜ r ≡ isTe te ⌝ }
 {
     LEAST_TE <= te && te <= MOST_TE
