@@ -1,0 +1,15 @@
+-- What a text says, its plain form says again: reading gives calls that can be made, and those are read back.
+-- Assumes nothing.
+use mathlib.Core.Path.{ap}
+use lib.ListN.{replicate}
+use Rattle.plans.specs.declared.Answer.{Answer}
+use Rattle.plans.specs.Reading.{readText, marked}
+use Rattle.plans.specs.Good.{ReadsAgain}
+use Rattle.plans.proofs.Kept.{plans-are-good}
+use Rattle.plans.proofs.Marks.{marked-are-marks, zeros-are-marks}
+use Rattle.plans.proofs.ReadBack.{plain-reads-back}
+
+pub reads-again : ReadsAgain
+reads-again text right =
+    let back = plain-reads-back (readText text .plan) (marked text (replicate 18000 0)) (plans-are-good text right) (marked-are-marks text (replicate 18000 0) zeros-are-marks) in
+    (ap (λ (answer : Answer). answer .plan) (back .0), back .1)

@@ -1,0 +1,145 @@
+-- What stays good while a text is read: an end whose line was read is accepted, and the function called is the caller's. What an end's line says keeps it.
+-- Assumes nothing.
+use Prim.Native.Nat.{ℕ, _<_, _≤_, _%_}
+use native.Mathlib.Nat.{not-suc-le-zero}
+use native.Mathlib.Omega.{arith}
+use mathlib.Core.Path.{_≡_, ap, _∙_}
+use mathlib.Core.Bool.{Bool, true, false}
+use borrow.Author.Tests.{eqb-false}
+use lib.Dec.{ltb, eqb, lit<}
+use lib.ListN.{set}
+use lib.Seq.{getD-set-other}
+use Rattle.laws.specs.Logic.{both, either}
+use Rattle.laws.proofs.Logic.{either-way, clash}
+use Rattle.items.specs.Items.{inSet}
+use Rattle.records.specs.Record.{badRecord}
+use Rattle.steps.specs.Session.{isTe}
+use Rattle.plans.specs.declared.Plan.{Plan}
+use Rattle.plans.specs.declared.Reading.{Reading}
+use Rattle.plans.specs.Reading.{modeFirst, twice, planned, mistaken, beginLine, place, home, setAt, store, added, say, firstOf, nameFunction, nameHome, nameMode, lacksCall, recordOf}
+use Rattle.plans.proofs.Places.{set-here, ends-apart}
+use Rattle.plans.proofs.KeptSets.{Fits, Sound, sound-at, sound-set, fits-home, fits-wanted, fits-more, named-odd, added-odd}
+
+-- what a plan holds at any time
+pub record Parts (plan : Plan) : Type 0 where
+  pub sets : Sound (plan .sets)
+  pub function : plan .function ≤ 6
+  pub te : either (eqb (plan .te) 0) (isTe (plan .te)) ≡ true
+
+-- the functions of a line are such, and the last is named
+pub record Named (plan : Plan) (end last first : ℕ) : Type 0 where
+  pub first-one : first ≤ 6
+  pub last-one : last ≤ 6
+  pub odd : 0 < last → setAt plan end last % 2 ≡ 1
+
+-- an end whose line was read is accepted
+abbrev pub Done : Plan → ℕ → Type 0
+Done plan e = 0 < setAt plan e home → badRecord (recordOf plan e) ≡ false
+
+-- within an end's line the other is; behind it both are, and the call can be made
+pub record Inside (plan : Plan) (end : ℕ) : Type 0 where
+  pub low : 1 ≤ end
+  pub high : end ≤ 2
+  pub other : (e : ℕ) → 1 ≤ e → e ≤ 2 → (e ≡ end → ⊥) → Done plan e
+
+pub record Outside (plan : Plan) : Type 0 where
+  pub each : (e : ℕ) → 1 ≤ e → e ≤ 2 → Done plan e
+  pub has-call : lacksCall plan ≡ false
+
+-- what may come next says whether an end's line is read
+abbrev pub within : ℕ → Bool
+within context = both (ltb 1 context) (ltb context 5)
+
+pub record Holds (plan : Plan) (end last first context : ℕ) : Type 0 where
+  pub parts : Parts plan
+  pub names : Named plan end last first
+  pub inside : within context ≡ true → Inside plan end
+  pub outside : within context ≡ false → Outside plan
+
+-- a mistake changes nothing of this
+abbrev pub Kept : Reading → Type 0
+Kept r = Holds (r .plan) (r .end) (r .function) (r .first) (r .context)
+
+-- what is kept where no mistake is made
+abbrev pub Later : Reading → Type 0
+Later r = r .what ≡ 0 → Kept r
+
+-- the record of an end is that of its sets
+same-record : (plan plan′ : Plan) (e : ℕ) → ((i : ℕ) → setAt plan′ e i ≡ setAt plan e i) → recordOf plan′ e ≡ recordOf plan e
+unfolding recordOf
+same-record plan plan′ e same = simp (same 0, same 1, same 2, same 3, same 4, same 5, same 6, same 7)
+
+pub no-names : (plan : Plan) (end : ℕ) → Named plan end 0 0
+no-names plan end = record { first-one = omega arith; last-one = omega arith; odd = λ h. absurd (not-suc-le-zero h) }
+
+module _ (r : Reading) (kept : Kept r) where
+  abbrev old : ℕ → ℕ
+  old k = setAt (r .plan) (r .end) k
+
+  -- a line is begun
+  pub new-line : (end context : ℕ) → (within context ≡ true → Inside (r .plan) end) → (within context ≡ false → Outside (r .plan)) → Kept (beginLine r end context)
+  new-line end context inside outside = record { parts = kept .parts; names = no-names (r .plan) end; inside = inside; outside = outside }
+
+  -- one of its sets is changed
+  module _ (is-inside : within (r .context) ≡ true) (k numbers : ℕ) (h : k < 8) (fits : Fits k numbers) where
+    abbrev after : Plan
+    after = planned (set (r .plan .sets) (place (r .end) k) numbers) (r .plan .function) (r .plan .te)
+
+    other-done : (e : ℕ) → 1 ≤ e → e ≤ 2 → (e ≡ r .end → ⊥) → Done after e
+    other-done e low high apart some =
+        let now = kept .inside is-inside in
+        let same : (i : ℕ) → setAt after e i ≡ setAt (r .plan) e i =
+        λ i. getD-set-other (r .plan .sets) (place (r .end) k) (place e i) numbers 0 (ends-apart (r .end) e k i (now .low) (now .high) low high apart) in
+        ap badRecord (same-record (r .plan) after e same) ∙ now .other e low high apart (rw (same home) at some)
+
+    kept-store : (last : ℕ) → Named after (r .end) last (r .first) → Kept (store r k numbers last)
+    unfolding both
+    kept-store last names = record {
+      parts = record { sets = sound-set (r .plan .sets) (kept .parts .sets) (r .end) k h numbers fits; function = kept .parts .function; te = kept .parts .te };
+      names = names;
+      inside = λ _. record { low = kept .inside is-inside .low; high = kept .inside is-inside .high; other = other-done };
+      outside = λ e. clash e;
+    }
+
+    -- no function is named, or the one of the set
+    pub kept-alone : Kept (store r k numbers 0)
+    kept-alone = kept-store 0 (record { first-one = kept .names .first-one; last-one = omega arith; odd = λ l. absurd (not-suc-le-zero l) })
+
+    kept-last : k ≤ 6 → numbers % 2 ≡ 1 → Kept (store r k numbers k)
+    kept-last six odd =
+        kept-store k (record { first-one = kept .names .first-one; last-one = six; odd = λ _. ap (λ (n : ℕ). n % 2) (set-here (r .plan .sets) (kept .parts .sets .0) (r .end) k numbers) ∙ odd })
+
+  -- something is said of the end, or of a function
+  pub kept-wanted : within (r .context) ≡ true → (n : ℕ) → n ≤ 3 → Later (say r 0 n 0)
+  unfolding say
+  kept-wanted is-inside n is-one =
+      either-way Later (inSet (old 0) n) (mistaken r twice) (store r 0 (added (old 0) n) 0) (λ _ _. kept)
+      (λ is-new _. kept-alone is-inside 0 (added (old 0) n) (lit< tt) (fits-wanted (old 0) n (sound-at (r .plan .sets) (kept .parts .sets) (r .end) 0 (lit< tt)) is-one is-new))
+
+  kept-modes : within (r .context) ≡ true → (f n : ℕ) → 1 ≤ f → f ≤ 6 → (inSet (old f) n ≡ false → added (old f) n % 2 ≡ 1) → Later (say r f n f)
+  unfolding say
+  kept-modes is-inside f n some six odd =
+      let h : f < 8 = omega (arith, six) in
+      either-way Later (inSet (old f) n) (mistaken r twice) (store r f (added (old f) n) f) (λ _ _. kept)
+      (λ is-new _. kept-last is-inside f (added (old f) n) h (fits-more f (old f) n some six (sound-at (r .plan .sets) (kept .parts .sets) (r .end) f h) (odd is-new)) six (odd is-new))
+
+  pub kept-mode : within (r .context) ≡ true → (n : ℕ) → Later (nameMode r n)
+  unfolding nameMode
+  kept-mode is-inside n =
+      let f = r .function in
+      either-way Later (eqb f 0) (mistaken r modeFirst) (say r f n f) (λ _ _. kept)
+      (λ is-one.
+      let some : 1 ≤ f = omega (arith, eqb-false f 0 is-one) in
+      kept-modes is-inside f n some (kept .names .last-one) (λ is-new. added-odd (old f) n (kept .names .odd some) is-new))
+
+  pub kept-home : within (r .context) ≡ true → (f : ℕ) → f ≤ 6 → Later (nameHome r f)
+  unfolding nameHome
+  kept-home is-inside f six = either-way Later (ltb 0 (old home)) (mistaken r twice) (store r home f 0) (λ _ _. kept) (λ _ _. kept-alone is-inside home f (lit< tt) (fits-home f six))
+
+-- a function is named, and is the first if none was before
+pub kept-function : (r : Reading) → Kept r → within (r .context) ≡ true → (f : ℕ) → 1 ≤ f → f ≤ 6 → Later (nameFunction r f)
+unfolding nameFunction
+kept-function r kept is-inside f some six =
+    let names : Named (r .plan) (r .end) (r .function) (firstOf (r .first) f) =
+    record { first-one = either-way (λ (n : ℕ). n ≤ 6) (eqb (r .first) 0) f (r .first) (λ _. six) (λ _. kept .names .first-one); last-one = kept .names .last-one; odd = kept .names .odd } in
+    kept-modes _ (record { parts = kept .parts; names = names; inside = kept .inside; outside = kept .outside }) is-inside f 0 some six (λ is-new. named-odd (setAt (r .plan) (r .end) f) is-new)

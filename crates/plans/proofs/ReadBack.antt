@@ -1,0 +1,171 @@
+-- The plain form of a call is read as that call, with the same bits damaged.
+-- Assumes nothing.
+use Prim.Native.Nat.{ℕ, zero, suc, _<_, _≤_, _+_}
+use native.Mathlib.Omega.{arith}
+use mathlib.Core.Path.{_≡_, refl, sym, ap, subst, _∙_}
+use mathlib.Core.List.{List, [], _∷_, _++_}
+use borrow.Author.Tests.{leb-true, lt-ltb, le-ltb, ne-eqb}
+use lib.Dec.{leb, eqb, eqb→eq}
+use lib.ListN.{length, getD, take, drop, replicate, drop-of-length-le}
+use lib.Seq.{drop-cons}
+use Rattle.laws.specs.Logic.{when, both, either}
+use Rattle.laws.specs.Tests.{allBelow}
+use Rattle.laws.proofs.Logic.{both-true, clash}
+use Rattle.laws.proofs.Computed.{below}
+use Rattle.names.specs.Bytes.{bytes}
+use Rattle.plans.specs.declared.Plan.{Plan}
+use Rattle.plans.specs.declared.Answer.{Answer}
+use Rattle.plans.specs.declared.Reading.{Reading}
+use Rattle.plans.specs.Text.{wordLength}
+use Rattle.plans.specs.Reading.{beginning, done, planned, home, place, setAt, recordOf, noPlan, fresh, isSaid, finishLine, withDefault, missing, answer, finished, readText, bitPlace, marked}
+use Rattle.plans.specs.Plain.{endText, bitsText, damageText, callText, plain}
+use Rattle.plans.specs.Good.{Good, Marks, PlainReadsBack}
+use Rattle.plans.proofs.Runs.{Stops, stops-joined, Run, nothing, fed, join, whole-read, whole-marked}
+use Rattle.plans.proofs.Marking.{marking, zeros, zeros-at, first-half, other-half, halves-marked}
+use Rattle.plans.proofs.Words.{Line, lineOf, noLine, reading}
+use Rattle.plans.proofs.FunctionRuns.{withFunctions, on}
+use Rattle.plans.proofs.Accepted.{has-home}
+use Rattle.plans.proofs.EndRuns.{withEnd, end-run}
+use Rattle.plans.proofs.LineRuns.{caller-known, answerer-known, end-finished, caller-begins, answerer-begins, call-stops, calling}
+use Rattle.plans.proofs.DamageRuns.{Ends, bits-stop, bits-run}
+
+-- the entries of a list are the list
+abbrev entries : List ℕ → ℕ → ℕ → List ℕ
+entries list n zero = []
+entries list n (suc count) = getD list n 0 ∷ entries list (suc n) count
+
+all-entries : (list : List ℕ) (n count : ℕ) → n + count ≡ length list → entries list n count ≡ drop n list
+all-entries list n zero all = sym (drop-of-length-le list {i = n} (omega (arith, all)))
+all-entries list n (suc count) all = ap (λ (l : List ℕ). getD list n 0 ∷ l) (all-entries list (suc n) count (omega (arith, all))) ∙ sym (drop-cons list n 0 (omega (arith, all)))
+
+module _ (plan : Plan) (good : Good plan) where
+  abbrev bothEnds : List ℕ
+  bothEnds = endText (bytes "caller   ") plan 1 ++ endText (bytes "\nanswerer ") plan 2
+
+  -- the sets when the caller's line is read, and the answerer's behind it
+  abbrev callerSets : List ℕ
+  callerSets = withEnd plan 1 (replicate 16 0)
+
+  all-sets : withEnd plan 2 callerSets ≡ plan .sets
+  unfolding withFunctions when
+  all-sets = all-entries (plan .sets) 0 16 (sym (good .sixteen))
+
+  none-said : (k : ℕ) → k < 8 → getD callerSets (place 2 k) 0 ≡ 0
+  unfolding withFunctions when allBelow both
+  none-said k h = eqb→eq (getD callerSets (place 2 k) 0) 0 (below (λ (n : ℕ). eqb (getD callerSets (place 2 n) 0) 0) 8 tt k h)
+
+  same-record : recordOf (planned callerSets 0 0) 1 ≡ recordOf plan 1
+  unfolding recordOf withFunctions when
+  same-record = refl
+
+  module _ (d : List ℕ) where
+    caller-run : (first : ℕ) × Run fresh d (endText (bytes "caller   ") plan 1) (on 1 0 first callerSets) d
+    unfolding isSaid when both
+    caller-run = end-run plan 1 (good .caller) d (replicate 16 0) refl (λ k _. zeros-at 16 (place 1 k)) fresh (bytes "caller   ") (caller-begins noPlan (noLine 0) d refl)
+
+    answerer-run : (first : ℕ) → (first′ : ℕ) × Run (on 1 0 first callerSets) d (endText (bytes "\nanswerer ") plan 2) (on 2 0 first′ (withEnd plan 2 callerSets)) d
+    unfolding withFunctions isSaid when both
+    answerer-run first =
+        end-run plan 2 (good .answerer) d callerSets refl none-said (on 1 0 first callerSets) (bytes "\nanswerer ")
+        (answerer-begins (planned callerSets 0 0) (lineOf 1 0 first) d (on 1 0 first callerSets) (end-finished plan 1 first callerSets (good .caller) same-record refl) refl)
+
+    answerer-stops : Stops (endText (bytes "\nanswerer ") plan 2)
+    unfolding bytes wordLength when either
+    answerer-stops = refl
+
+    ends-run : (first : ℕ) × Run fresh d bothEnds (on 2 0 first (plan .sets)) d
+    ends-run =
+        let of-caller = caller-run in
+        let of-answerer = answerer-run (of-caller .0) in
+        (of-answerer .0, subst (λ (sets : List ℕ). Run fresh d bothEnds (on 2 0 (of-answerer .0) sets) d) all-sets (join (of-caller .1) answerer-stops (of-answerer .1)))
+
+  te-range : (500 ≤ plan .te) × (plan .te ≤ 5000)
+  te-range = let these = both-true (leb 500 (plan .te)) (leb (plan .te) 5000) (good .te) in (leb-true 500 (plan .te) (these .0), leb-true (plan .te) 5000 (these .1))
+
+  -- the end of the text
+  none-missing : missing plan ≡ 0
+  unfolding missing isSaid when both
+  none-missing =
+      simp (lt-ltb 0 (setAt plan 1 home) (has-home plan 1 (good .caller) .0), lt-ltb 0 (setAt plan 2 home) (has-home plan 2 (good .answerer) .0), lt-ltb 0 (plan .function) (good .function .0))
+
+  same-default : withDefault plan ≡ plan
+  unfolding when
+  same-default = simp (ne-eqb (plan .te) 0 (λ e. omega (arith, e, te-range .0)))
+
+  is-finished : (before : Line) (at : ℕ) → finished (reading plan before beginning) at ≡ answer plan 0 at
+  unfolding finished finishLine when either
+  is-finished before at = simp (none-missing, same-default)
+
+  -- the ends, the call and Te
+  head-run : (d : List ℕ) → Run fresh d (bothEnds ++ callText (plan .function) (plan .te)) (reading plan (noLine 0) done) d
+  unfolding recordOf
+  head-run d =
+      let both-ends = ends-run d in
+      let first = both-ends .0 in
+      join (both-ends .1) (call-stops plan (good .called) d)
+      (calling plan (good .called) d (on 2 0 first (plan .sets)) (lineOf 2 0 first) (end-finished plan 2 first (plan .sets) (good .answerer) refl refl)
+      (good .function .0) (omega (arith, good .function .1)) (good .te) (omega (arith, te-range .1)))
+
+-- the damaged bits
+caller-place : (time : ℕ) → bitPlace 1 time ≡ 0 + time
+unfolding when
+caller-place time = omega arith
+
+answerer-place : (time : ℕ) → bitPlace 2 time ≡ 9000 + time
+unfolding when
+answerer-place time = refl
+
+module _ (plan : Plan) (damaged d : List ℕ) (marks : Marks damaged) where
+  abbrev first : List ℕ
+  first = take 9000 damaged
+
+  abbrev second : List ℕ
+  second = take 9000 (drop 9000 damaged)
+
+  abbrev twoTexts : List ℕ
+  twoTexts = bitsText (bytes "\ndamaged   caller") 0 0 first ++ bitsText (bytes "\ndamaged   answerer") 0 0 second
+
+  texts-stop : Stops twoTexts
+  unfolding bytes
+  texts-stop =
+      stops-joined (bitsText (bytes "\ndamaged   caller") 0 0 first) (bitsText (bytes "\ndamaged   answerer") 0 0 second)
+      (bits-stop plan 1 (bytes "caller") caller-known 0 caller-place first 0 0) (bits-stop plan 2 (bytes "answerer") answerer-known 9000 answerer-place second 0 0)
+
+  damage-there : damageText damaged ≡ twoTexts
+  unfolding damageText when
+  damage-there = simp (le-ltb (length damaged) 18000 (omega (arith, marks .both-ends)))
+
+  two-runs : (r : Reading) → Ends plan r → (r′ : Reading) × Ends plan r′ × Run r d twoTexts r′ (marking (marking d 0 first) 9000 second)
+  unfolding bytes
+  two-runs r ends =
+      let of-first = bits-run plan 1 (bytes "caller") caller-known 0 caller-place first 0 0 d r (ends, λ e. clash e) (omega (arith, first-half 9000 damaged (marks .both-ends))) in
+      let of-second =
+      bits-run plan 2 (bytes "answerer") answerer-known 9000 answerer-place second 0 0 (marking d 0 first) (of-first .0) (of-first .1, λ e. clash e)
+      (omega (arith, other-half 9000 damaged (marks .both-ends))) in
+      (of-second .0, of-second .1, join (of-first .2) (bits-stop plan 2 (bytes "answerer") answerer-known 9000 answerer-place second 0 0) (of-second .2))
+
+  -- the whole text
+  whole-run : Good plan → (before : Line) × Run fresh d (plain plan damaged) (reading plan before beginning) (marking (marking d 0 first) 9000 second)
+  unfolding plain bytes wordLength finishLine when either
+  whole-run good =
+      let bits = two-runs (reading plan (noLine 0) done) (noLine 0, refl) in
+      let run = join (join (head-run plan good d) texts-stop (bits .2)) refl (fed (bits .1 .1) refl (nothing (reading plan (bits .1 .0) beginning) (marking (marking d 0 first) 9000 second))) in
+      (bits .1 .0, rw damage-there run)
+
+module _ (plan : Plan) (damaged : List ℕ) (good : Good plan) (marks : Marks damaged) where
+  abbrev text : List ℕ
+  text = plain plan damaged
+
+  read-back : readText text ≡ answer plan 0 (length text)
+  read-back =
+      let all = whole-run plan damaged [] marks good in
+      whole-read (all .1) 0 ∙ is-finished plan good (all .0) (0 + length text) ∙ ap (answer plan 0) (omega arith)
+
+  marked-back : marked text (zeros (9000 + 9000)) ≡ damaged
+  unfolding marked when
+  marked-back =
+      let all = whole-run plan damaged (zeros (9000 + 9000)) marks good in
+      rw (ap (λ (told : Answer). told .what) read-back) (whole-marked (all .1) ∙ halves-marked 9000 damaged (marks .both-ends) (marks .bits))
+
+pub plain-reads-back : PlainReadsBack
+plain-reads-back plan damaged good marks = (read-back plan damaged good marks, marked-back plan damaged good marks)

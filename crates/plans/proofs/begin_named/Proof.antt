@@ -1,0 +1,27 @@
+-- `plans::begin_named` meets its contract: a line that stands already is a mistake, any other begins.
+-- Assumes nothing.
+use borrow.Author.Needs.{needs}
+use Rattle.laws.specs.Logic.{when}
+use Rattle.plans.proofs.begin_named.Statement.{statement}
+use Rattle.plans.proofs.begin_named.Tie as tie
+
+is-said-requires : tie.Need-is-said-requires
+is-said-requires c κs = search needs
+
+mistaken-requires : tie.Need-mistaken-requires
+mistaken-requires c κs = search needs
+
+returns : tie.Need-returns
+unfolding when
+returns c = simp (c .mistaken .ensures, c .before .if1 .taken, ← c .before .before .is-said .ensures)
+
+begin-line-requires : tie.Need-begin-line-requires
+begin-line-requires c κs = search needs
+
+returns-2 : tie.Need-returns-2
+unfolding when
+returns-2 c = simp (c .begin-line .ensures, c .before .if1 .left, ← c .before .before .is-said .ensures)
+
+pub begin-named-spec : {M : Type 1} → statement M
+begin-named-spec =
+    tie.close (tie.spec is-said-requires mistaken-requires returns begin-line-requires returns-2)

@@ -1,0 +1,54 @@
+-- The plans that texts say: what reading gives, and what the plain form gives back.
+use Prim.Native.Nat.{ℕ, _≤_, _<_, _%_}
+use mathlib.Core.Path.{_≡_}
+use mathlib.Core.Bool.{true, false}
+use mathlib.Core.List.{List}
+use mathlib.Core.Logic.{_⊎_}
+use lib.Dec.{leb}
+use lib.ListN.{length, replicate}
+use Rattle.laws.specs.Tests.{every}
+use Rattle.records.specs.Record.{badRecord}
+use Rattle.steps.specs.Session.{isTe}
+use Rattle.plans.specs.declared.Plan.{Plan}
+use Rattle.plans.specs.Reading.{home, setAt, recordOf, answer, readText, marked}
+use Rattle.plans.specs.Plain.{plain}
+
+-- an end whose record is accepted: sets of sixteen numbers; nothing is said of a function that it has not; the home function is one of six; it wants
+-- and is no more than there is
+pub record GoodEnd (plan : Plan) (end : ℕ) : Type 0 where
+  pub accepted : badRecord (recordOf plan end) ≡ false
+  pub sets : (f : ℕ) → f ≤ 6 → setAt plan end f < 65536
+  pub nothing-else : (f : ℕ) → 1 ≤ f → f ≤ 6 → (setAt plan end f % 2 ≡ 1) ⊎ (setAt plan end f ≡ 0)
+  pub home-function : setAt plan end home ≤ 6
+  pub said : setAt plan end 0 ≤ 15
+
+-- a call that can be made: two such ends, a function that the caller has, and Te within its range
+pub record Good (plan : Plan) : Type 0 where
+  pub sixteen : length (plan .sets) ≡ 16
+  pub caller : GoodEnd plan 1
+  pub answerer : GoodEnd plan 2
+  pub function : (1 ≤ plan .function) × (plan .function ≤ 6)
+  pub called : setAt plan 1 (plan .function) % 2 ≡ 1
+  pub te : isTe (plan .te) ≡ true
+
+-- 1 for each damaged bit of both ends, 0 for every other
+pub record Marks (damaged : List ℕ) : Type 0 where
+  pub both-ends : length damaged ≡ 18000
+  pub bits : every (λ (b : ℕ). leb b 1) damaged ≡ true
+
+-- a text that is no mistake is a call that can be made
+abbrev pub PlansAreGood : Type 0
+PlansAreGood = (text : List ℕ) → readText text .what ≡ 0 → Good (readText text .plan)
+
+-- the plain form of a call that can be made is read as that call, with the same bits damaged
+abbrev pub PlainReadsBack : Type 0
+PlainReadsBack =
+    (plan : Plan) (damaged : List ℕ) → Good plan → Marks damaged
+    → (readText (plain plan damaged) ≡ answer plan 0 (length (plain plan damaged))) × (marked (plain plan damaged) (replicate 18000 0) ≡ damaged)
+
+-- so what any text says is said again by the plain form of it
+abbrev pub ReadsAgain : Type 0
+ReadsAgain =
+    (text : List ℕ) → readText text .what ≡ 0
+    → (readText (plain (readText text .plan) (marked text (replicate 18000 0))) .plan ≡ readText text .plan)
+    × (marked (plain (readText text .plan) (marked text (replicate 18000 0))) (replicate 18000 0) ≡ marked text (replicate 18000 0))

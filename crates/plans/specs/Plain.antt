@@ -1,0 +1,61 @@
+-- A plan in its plain form: every default written out.
+use Prim.Native.Nat.{ℕ, zero, suc, _+_, _/_, _%_}
+use mathlib.Core.List.{List, [], _∷_, _++_}
+use lib.Dec.{ltb, eqb}
+use lib.ListN.{length, take, drop}
+use Rattle.io.specs.Digits.{digits}
+use Rattle.laws.specs.Logic.{when}
+use Rattle.names.specs.Bytes.{bytes}
+use Rattle.names.specs.Names.{function, mode, quality, names, namesOf}
+use Rattle.plans.specs.declared.Plan.{Plan}
+use Rattle.plans.specs.Reading.{home, setAt, added}
+
+-- the name of a function, behind a blank
+abbrev pub functionName : ℕ → List ℕ
+functionName f = namesOf function (added 0 f) names
+
+-- a function that an end has, with its modes
+unfoldable pub functionText : ℕ → ℕ → List ℕ
+functionText f modes = when (eqb (modes % 2) 1) (functionName f ++ namesOf mode modes names ++ bytes ",") []
+
+-- functions from one on, so many of them
+unfoldable pub functionsText : Plan → ℕ → ℕ → ℕ → List ℕ
+functionsText plan end f zero = []
+functionsText plan end f (suc count) = functionText f (setAt plan end f) ++ functionsText plan end (f + 1) count
+
+-- what an end wants, and what its line is
+abbrev pub wantsText : ℕ → List ℕ
+wantsText said =
+    when (eqb (said % 2) 1) (bytes ", wants LAPM") [] ++ when (eqb (said / 2 % 2) 1) (bytes ", wants access") []
+    ++ when (ltb 0 (said / 4 % 4)) (bytes ",") [] ++ namesOf quality said names
+
+-- the line of an end: its name, then what is said of it
+abbrev pub endText : List ℕ → Plan → ℕ → List ℕ
+endText name plan end = name ++ functionsText plan end 1 6 ++ (bytes " home" ++ functionName (setAt plan end home % 8)) ++ wantsText (setAt plan end 0)
+
+-- a number below 100,000 in decimal digits, as few as hold it
+abbrev pub decimal : ℕ → List ℕ
+decimal n = digits 10 (when (ltb n 10) 1 (when (ltb n 100) 2 (when (ltb n 1000) 3 (when (ltb n 10000) 4 5)))) n
+
+-- a damaged bit, sixteen in a line
+abbrev pub bitText : List ℕ → ℕ → ℕ → List ℕ
+bitText front count time = when (eqb (count % 16) 0) front [] ++ bytes " " ++ decimal time
+
+-- the damaged bits of an end from a time on, behind so many others
+unfoldable pub bitsText : List ℕ → ℕ → ℕ → List ℕ → List ℕ
+bitsText front count time [] = []
+bitsText front count time (b ∷ rest) = when (eqb b 1) (bitText front count time) [] ++ bitsText front (count + when (eqb b 1) 1 0) (time + 1) rest
+
+-- the damaged bits of both ends
+unfoldable pub damageText : List ℕ → List ℕ
+damageText damaged =
+    when (ltb (length damaged) 18000) []
+    (bitsText (bytes "\ndamaged   caller") 0 0 (take 9000 damaged) ++ bitsText (bytes "\ndamaged   answerer") 0 0 (take 9000 (drop 9000 damaged)))
+
+-- the function called, and Te
+abbrev pub callText : ℕ → ℕ → List ℕ
+callText function te = bytes "\ncall     " ++ functionName function ++ bytes "\nTe        " ++ decimal te
+
+unfoldable pub plain : Plan → List ℕ → List ℕ
+plain plan damaged =
+    endText (bytes "caller   ") plan 1 ++ endText (bytes "\nanswerer ") plan 2 ++ callText (plan .function) (plan .te) ++ damageText damaged ++ bytes "\n"

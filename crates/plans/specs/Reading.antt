@@ -1,0 +1,340 @@
+-- A call text, read into a plan or the first mistake in it.
+use Prim.Native.Nat.{ℕ, _+_, _*_, _/_, _%_, _^_}
+use mathlib.Core.Bool.{Bool, false}
+use mathlib.Core.List.{List, [], _∷_}
+use lib.Dec.{ltb, eqb}
+use lib.ListN.{length, getD, set, replicate}
+use Rattle.laws.specs.Logic.{when, both, either}
+use Rattle.items.specs.Items.{inSet}
+use Rattle.names.specs.declared.Meaning.{Meaning}
+use Rattle.names.specs.Names.{end, line, function, mode, otherMode, part, wanted, quality, named}
+use Rattle.records.specs.declared.Modes.{Modes}
+use Rattle.records.specs.declared.Record.{Record}
+use Rattle.records.specs.Record.{inUse, badRecord}
+use Rattle.steps.specs.Session.{isTe, defaultTe}
+use Rattle.plans.specs.declared.Plan.{Plan}
+use Rattle.plans.specs.declared.Answer.{Answer}
+use Rattle.plans.specs.declared.Reading.{Reading}
+use Rattle.plans.specs.Text.{blank, endsWord, lineFeed, comment, word, number}
+
+-- what may come next: a line; in an end's line; behind `home`, `wants`, `call`, `Te`, `damaged`; the first bit, further bits; the line's end.
+-- What does not come is the mistake of that number
+abbrev pub beginning : ℕ
+beginning = 1
+
+abbrev pub inEnd : ℕ
+inEnd = 2
+
+abbrev pub afterHome : ℕ
+afterHome = 3
+
+abbrev pub afterWants : ℕ
+afterWants = 4
+
+abbrev pub afterCall : ℕ
+afterCall = 5
+
+abbrev pub afterTe : ℕ
+afterTe = 6
+
+abbrev pub afterDamaged : ℕ
+afterDamaged = 7
+
+abbrev pub firstBit : ℕ
+firstBit = 8
+
+abbrev pub bits : ℕ
+bits = 9
+
+abbrev pub done : ℕ
+done = 10
+
+-- what is said already
+abbrev pub twice : ℕ
+twice = 11
+
+-- a mode before a function
+abbrev pub modeFirst : ℕ
+modeFirst = 12
+
+-- an end without a function
+abbrev pub noFunction : ℕ
+noFunction = 13
+
+-- a home function that the end has not
+abbrev pub homeNotHad : ℕ
+homeNotHad = 14
+
+-- "PCM b5 or b6 is set without item 1 in the same function"
+abbrev pub pcmAlone : ℕ
+pcmAlone = 15
+
+-- what a text lacks
+abbrev pub noCaller : ℕ
+noCaller = 16
+
+abbrev pub noAnswerer : ℕ
+noAnswerer = 17
+
+abbrev pub noCall : ℕ
+noCall = 18
+
+-- a function that the caller has not
+abbrev pub callNotHad : ℕ
+callNotHad = 19
+
+-- a plan of these sets: of each end eight, the caller's first; what it wants and what its line is, then each function's modes, with 0 in the set
+-- where the end has it, and last, as a number, its home function
+abbrev pub planned : List ℕ → ℕ → ℕ → Plan
+planned sets function te = record { sets = sets; function = function; te = te }
+
+-- a mistake, or 0 for none
+abbrev pub mistaken : Reading → ℕ → Reading
+mistaken r what = record { plan = r .plan; end = r .end; function = r .function; first = r .first; context = r .context; what = what }
+
+-- what may come next
+abbrev pub going : Reading → ℕ → Reading
+going r context = record { plan = r .plan; end = r .end; function = r .function; first = r .first; context = context; what = r .what }
+
+-- a line that is about an end, or about none
+abbrev pub beginLine : Reading → ℕ → ℕ → Reading
+beginLine r end context = record { plan = r .plan; end = end; function = 0; first = 0; context = context; what = r .what }
+
+-- where one of the eight sets of an end stands
+abbrev pub place : ℕ → ℕ → ℕ
+place end k = when (eqb end 1) (k % 8) (8 + k % 8)
+
+abbrev pub home : ℕ
+home = 7
+
+abbrev pub setAt : Plan → ℕ → ℕ → ℕ
+setAt plan end k = getD (plan .sets) (place end k) 0
+
+-- the line's end with one of its sets anew; modes behind it belong to the function
+abbrev pub store : Reading → ℕ → ℕ → ℕ → Reading
+store r k numbers function = record {
+  plan = planned (set (r .plan .sets) (place (r .end) k) numbers) (r .plan .function) (r .plan .te);
+  end = r .end;
+  function = function;
+  first = r .first;
+  context = inEnd;
+  what = r .what;
+}
+
+-- a set with one number more
+abbrev pub added : ℕ → ℕ → ℕ
+added numbers n = when (ltb n 16) ((numbers + 2 ^ n) % 65536) numbers
+
+-- a number is said of a function, or at 0 of the end, and not twice
+unfoldable pub say : Reading → ℕ → ℕ → ℕ → Reading
+say r k n function =
+    when (inSet (setAt (r .plan) (r .end) k) n) (mistaken r twice)
+    (store r k (added (setAt (r .plan) (r .end) k) n) function)
+
+-- the first of two functions that is one
+abbrev pub firstOf : ℕ → ℕ → ℕ
+firstOf first function = when (eqb first 0) function first
+
+unfoldable pub nameFunction : Reading → ℕ → Reading
+nameFunction r function = say (record { plan = r .plan; end = r .end; function = r .function; first = firstOf (r .first) function; context = r .context; what = r .what }) function 0 function
+
+-- the home function is named once
+unfoldable pub nameHome : Reading → ℕ → Reading
+nameHome r function = when (ltb 0 (setAt (r .plan) (r .end) home)) (mistaken r twice) (store r home function 0)
+
+-- a mode belongs to the function before it
+unfoldable pub nameMode : Reading → ℕ → Reading
+nameMode r n = when (eqb (r .function) 0) (mistaken r modeFirst) (say r (r .function) n (r .function))
+
+-- a word of an end's line
+unfoldable pub endWord : Reading → Meaning → Reading
+endWord r m =
+    when (eqb (m .kind) function) (nameFunction r (m .number))
+    (when (eqb (m .kind) mode) (nameMode r (m .number))
+    (when (eqb (m .kind) otherMode) (nameMode r (m .number))
+    (when (eqb (m .kind) quality) (say r 0 (m .number) 0)
+    (when (eqb (m .kind) part) (going r (m .number))
+    (mistaken r inEnd)))))
+
+-- a line with this name stands in the text already; those for damaged bits may stand again
+unfoldable pub isSaid : Plan → ℕ → Bool
+isSaid plan number =
+    when (eqb number afterCall) (ltb 0 (plan .function))
+    (when (eqb number afterTe) (ltb 0 (plan .te))
+    (both (ltb number afterCall) (ltb 0 (setAt plan number home))))
+
+abbrev pub beginNamed : Reading → ℕ → ℕ → ℕ → Reading
+beginNamed r name end context = when (isSaid (r .plan) name) (mistaken r twice) (beginLine r end context)
+
+-- the first word of a line
+unfoldable pub firstWord : Reading → Meaning → Reading
+firstWord r m =
+    when (eqb (m .kind) end) (beginNamed r (m .number) (m .number) inEnd)
+    (when (eqb (m .kind) line) (beginNamed r (m .number) 0 (m .number))
+    (mistaken r beginning))
+
+-- the caller is known, and the function called, and the caller has not that function
+unfoldable pub lacksCall : Plan → Bool
+lacksCall plan = both (ltb 0 (setAt plan 1 home)) (both (ltb 0 (plan .function)) (eqb (setAt plan 1 (plan .function) % 2) 0))
+
+-- something that is planned, and what may come next; or the mistake that the call cannot be made
+unfoldable pub planning : Reading → Plan → ℕ → Reading
+planning r plan context =
+    when (lacksCall plan) (mistaken r callNotHad)
+    (record { plan = plan; end = r .end; function = r .function; first = r .first; context = context; what = r .what })
+
+abbrev pub nameCall : Reading → ℕ → Reading
+nameCall r function = planning r (planned (r .plan .sets) function (r .plan .te)) done
+
+-- a function where one is asked for: the home function, or the one called
+unfoldable pub functionWord : Reading → ℕ → Reading
+functionWord r function =
+    when (eqb (r .context) afterHome) (nameHome r function)
+    (when (eqb (r .context) afterCall) (nameCall r function)
+    (mistaken r (r .context)))
+
+-- a word that names something
+unfoldable pub nameWord : Reading → Meaning → Reading
+nameWord r m =
+    when (eqb (r .context) inEnd) (endWord r m)
+    (when (eqb (r .context) beginning) (firstWord r m)
+    (when (eqb (m .kind) function) (functionWord r (m .number))
+    (when (eqb (m .kind) wanted) (when (eqb (r .context) afterWants) (say r 0 (m .number) 0) (mistaken r (r .context)))
+    (when (eqb (m .kind) end) (when (eqb (r .context) afterDamaged) (beginLine r (m .number) firstBit) (mistaken r (r .context)))
+    (mistaken r (r .context))))))
+
+abbrev pub teWord : Reading → ℕ → Reading
+teWord r te = when (isTe te) (planning r (planned (r .plan .sets) (r .plan .function) te) done) (mistaken r afterTe)
+
+-- a call is rehearsed for 9,000 bits, 30 seconds
+abbrev pub bitWord : Reading → ℕ → Reading
+bitWord r time = when (ltb 8999 time) (mistaken r (r .context)) (going r bits)
+
+abbrev pub atBits : Reading → Bool
+atBits r = either (eqb (r .context) firstBit) (eqb (r .context) bits)
+
+unfoldable pub readWord : Reading → List ℕ → Reading
+readWord r text =
+    when (eqb (r .context) afterTe) (teWord r (number text))
+    (when (atBits r) (bitWord r (number text))
+    (nameWord r (named text)))
+
+-- what a set says of a function: 0 in it that it is named, 1 to 12 its items, from 13 on its PCM options
+abbrev pub modesOf : ℕ → Modes
+modesOf numbers = record { available = numbers % 2; pcm = numbers / 8192; items = numbers % 8192 / 2 * 2 }
+
+-- the record of an end
+unfoldable pub recordOf : Plan → ℕ → Record
+recordOf plan end = record {
+  functions = modesOf (setAt plan end 1) ∷ modesOf (setAt plan end 2) ∷ modesOf (setAt plan end 3) ∷ modesOf (setAt plan end 4) ∷ modesOf (setAt plan end 5) ∷ modesOf (setAt plan end 6) ∷ [];
+  home = setAt plan end home % 8;
+  lapm = setAt plan end 0 % 2;
+  access = setAt plan end 0 / 2 % 2;
+  cellular = setAt plan end 0 / 4 % 2;
+  digital = setAt plan end 0 / 8 % 2;
+}
+
+-- what is wrong with a record, or 0
+unfoldable pub recordMistake : Record → ℕ
+recordMistake own =
+    when (eqb (own .home) 0) noFunction
+    (when (eqb (inUse own (own .home) .available) 1) (when (badRecord own) pcmAlone 0) homeNotHad)
+
+-- the first function that an end's line names is the home function where no other is
+unfoldable pub withHome : Reading → Reading
+withHome r = when (ltb 0 (setAt (r .plan) (r .end) home)) r (store r home (r .first) 0)
+
+-- the end of an end's line
+unfoldable pub finishEnd : Reading → Reading
+finishEnd r =
+    when (eqb (recordMistake (recordOf (withHome r .plan) (withHome r .end))) 0)
+    (planning (withHome r) (withHome r .plan) beginning)
+    (mistaken (withHome r) (recordMistake (recordOf (withHome r .plan) (withHome r .end))))
+
+-- a line may end where this may come next
+abbrev pub mayEnd : ℕ → Bool
+mayEnd context = either (eqb context beginning) (either (eqb context bits) (eqb context done))
+
+-- the end of a line
+unfoldable pub finishLine : Reading → Reading
+finishLine r = when (eqb (r .context) inEnd) (finishEnd r) (when (mayEnd (r .context)) (going r beginning) (mistaken r (r .context)))
+
+-- where a byte stands: between words, in a word, in a comment
+abbrev pub between : ℕ
+between = 0
+
+abbrev pub inWord : ℕ
+inWord = 1
+
+abbrev pub inComment : ℕ
+inComment = 2
+
+-- where the byte behind a byte stands
+unfoldable pub scanAfter : ℕ → ℕ → ℕ
+scanAfter scan b = when (eqb b lineFeed) between (when (eqb scan inComment) inComment (when (eqb b comment) inComment (when (blank b) between inWord)))
+
+abbrev pub beginsWord : ℕ → ℕ → Bool
+beginsWord scan b = when (endsWord b) false (eqb scan between)
+
+-- a byte with what follows it: the end of a line, a word, or nothing
+unfoldable pub readByte : Reading → ℕ → ℕ → List ℕ → Reading
+readByte r scan b rest = when (eqb b lineFeed) (finishLine r) (when (beginsWord scan b) (readWord r (word (b ∷ rest))) r)
+
+abbrev pub noPlan : Plan
+noPlan = planned (replicate 16 0) 0 0
+
+-- nothing is read
+abbrev pub fresh : Reading
+fresh = record { plan = noPlan; end = 0; function = 0; first = 0; context = beginning; what = 0 }
+
+abbrev pub answer : Plan → ℕ → ℕ → Answer
+answer plan what at = record { plan = plan; what = what; at = at }
+
+-- what a text lacks that was read to its end, or 0
+unfoldable pub missing : Plan → ℕ
+missing plan = when (isSaid plan 1) (when (isSaid plan 2) (when (isSaid plan afterCall) 0 noCall) noAnswerer) noCaller
+
+-- a plan that gives no Te has that of a start without a value
+abbrev pub withDefault : Plan → Plan
+withDefault plan = planned (plan .sets) (plan .function) (when (eqb (plan .te) 0) defaultTe (plan .te))
+
+-- a text that was read to its end: its last line, then what is missing
+unfoldable pub finished : Reading → ℕ → Answer
+finished r at =
+    when (eqb (finishLine r .what) 0)
+    (when (eqb (missing (finishLine r .plan)) 0)
+    (answer (withDefault (finishLine r .plan)) 0 at)
+    (answer noPlan (missing (finishLine r .plan)) at))
+    (answer noPlan (finishLine r .what) at)
+
+-- a text from a place on: up to the first mistake, or to its end
+unfoldable pub readFrom : Reading → ℕ → ℕ → List ℕ → Answer
+readFrom r scan at [] = finished r at
+readFrom r scan at (b ∷ rest) =
+    when (eqb (readByte r scan b rest .what) 0)
+    (readFrom (readByte r scan b rest) (scanAfter scan b) (at + 1) rest)
+    (answer noPlan (readByte r scan b rest .what) at)
+
+-- a text is a plan, or the first mistake in it with its place
+abbrev pub readText : List ℕ → Answer
+readText text = readFrom fresh between 0 text
+
+-- the place of a bit of an end among the bits of both
+abbrev pub bitPlace : ℕ → ℕ → ℕ
+bitPlace end time = when (eqb end 1) time (9000 + time)
+
+-- a damaged bit stands at a byte
+abbrev pub isBit : Reading → ℕ → ℕ → Bool
+isBit r scan b = both (beginsWord scan b) (atBits r)
+
+-- a bit that a text says is damaged is marked where there is a place for it
+abbrev pub markedBit : Reading → ℕ → ℕ → List ℕ → List ℕ → List ℕ
+markedBit r scan b rest damaged = when (isBit r scan b) (set damaged (bitPlace (r .end) (number (word (b ∷ rest)))) 1) damaged
+
+unfoldable pub markedFrom : Reading → ℕ → List ℕ → List ℕ → List ℕ
+markedFrom r scan [] damaged = damaged
+markedFrom r scan (b ∷ rest) damaged = markedFrom (readByte r scan b rest) (scanAfter scan b) rest (markedBit r scan b rest damaged)
+
+-- the damaged bits of a text that is a plan
+unfoldable pub marked : List ℕ → List ℕ → List ℕ
+marked text damaged = when (eqb (readText text .what) 0) (markedFrom fresh between text damaged) damaged
