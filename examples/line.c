@@ -20,9 +20,8 @@ struct line {
     struct tailsprig_listener heard;
     uint8_t menu[TAILSPRIG_MENU_MOST]; /* the CM or JM of this end */
     size_t menu_len;
-    uint8_t sending[TAILSPRIG_MOST_BITS]; /* one copy of what is sent, a byte for each bit */
-    size_t sending_len, sent;             /* its bits, 0 where nothing is sent, and how many of them are on the line */
-    bool again; /* a menu is sent until the state changes, CJ once */
+    uint8_t bits[TAILSPRIG_MOST_BITS]; /* one copy of it and CJ behind it, a byte for each bit */
+    size_t len, sent;                  /* the bits of the copy, and how many of what is sent are on the line */
 };
 
 static void show(const struct line *line, uint32_t now, const char *what)
@@ -37,46 +36,47 @@ static void show_menu(const struct line *line)
         printf(" %02X", line->menu[i]);
 }
 
-/* A menu that this end made, back to back until the state changes. A made menu is never refused by the writer. */
-static void send_menu(struct line *line)
+/* Writes one copy of a menu that this end made, and CJ behind it. A made menu is never refused by the writer. */
+static void write_copy(struct line *line)
 {
-    line->sending_len = (size_t)tailsprig_write(TAILSPRIG_MENU, line->menu, line->menu_len, 1, line->sending, sizeof line->sending);
+    line->len = (size_t)tailsprig_write(TAILSPRIG_MENU, line->menu, line->menu_len, 1, line->bits, sizeof line->bits);
+    tailsprig_write_cj(line->bits + line->len, sizeof line->bits - line->len);
     line->sent = 0;
-    line->again = true;
 }
 
-/* CJ, behind the rest of the octet that is being sent: the caller finishes it with its stop bit. */
-static void send_cj(struct line *line)
+/* What is sent in a state ends at this place of the bits: a copy of the menu, or CJ behind it; 0 where nothing is sent. */
+static size_t end_of(const struct line *line)
 {
-    size_t rest = (TAILSPRIG_OCTET_BITS - line->sent % TAILSPRIG_OCTET_BITS) % TAILSPRIG_OCTET_BITS;
-
-    memmove(line->sending, line->sending + line->sent, rest);
-    line->sending_len = rest + (size_t)tailsprig_write_cj(line->sending + rest, sizeof line->sending - rest);
-    line->sent = 0;
-    line->again = false;
+    switch (line->session.state) {
+    case TAILSPRIG_STATE_MENU:
+    case TAILSPRIG_STATE_JOINT:
+        return line->len;
+    case TAILSPRIG_STATE_CLOSING:
+        return line->len + TAILSPRIG_CJ_BITS;
+    default:
+        return 0;
+    }
 }
 
-/* Nothing is sent. JM is cut off where it is. */
-static void send_nothing(struct line *line)
+/* The place of the next bit. The caller finishes the octet that it is sending with its stop bit, and CJ follows; JM is cut off. */
+static size_t place_of(const struct line *line)
 {
-    line->sending_len = 0;
+    if (line->session.state == TAILSPRIG_STATE_CLOSING && line->sent <= line->len && line->sent % TAILSPRIG_OCTET_BITS == 0)
+        return line->len;
+    return line->sent;
 }
 
-/* What each state asks of the line. */
+/* A state is entered. What it asks of the line is in the two functions above. */
 static void line_entered(struct line *line, int32_t state, uint32_t now)
 {
     static const char *const names[] = {"", "still", "calling", "quiet", "menu", "closing", "pause", "still", "answering", "joint"};
 
     show(line, now, names[state]);
-    if (state == TAILSPRIG_STATE_MENU || state == TAILSPRIG_STATE_JOINT) {
+    if (state == TAILSPRIG_STATE_MENU || state == TAILSPRIG_STATE_JOINT)
         show_menu(line);
-        send_menu(line);
-    } else if (state == TAILSPRIG_STATE_CLOSING) {
-        send_cj(line);
-        printf(", sends CJ behind %u bits", (unsigned)(line->sending_len - TAILSPRIG_CJ_BITS));
-    } else {
-        send_nothing(line);
-    }
+    else if (state == TAILSPRIG_STATE_CLOSING)
+        printf(", sends CJ behind %u bits",
+               (unsigned)((TAILSPRIG_OCTET_BITS - line->sent % TAILSPRIG_OCTET_BITS) % TAILSPRIG_OCTET_BITS));
     printf("\n");
 }
 
@@ -85,7 +85,7 @@ static void line_start(struct line *line, struct tailsprig_session session)
 {
     line->session = session;
     line->heard = tailsprig_fresh();
-    send_nothing(line);
+    line->sent = 0;
 }
 
 /* An event, with its time: the session that comes back is kept, refused or not. */
@@ -100,7 +100,6 @@ static void line_step(struct line *line, uint8_t event, int32_t value, uint32_t 
         line_entered(line, taken.code, now);
         return;
     }
-    send_nothing(line);
     show(line, now, "over");
     if (taken.code >= TAILSPRIG_GO_ON)
         printf(", goes on with %d\n", (int)(taken.code - TAILSPRIG_GO_ON));
@@ -122,6 +121,7 @@ static void line_agreed(struct line *line, uint32_t now)
         if (made < 0)
             return; /* our record is bad: an agreed menu can be read */
         line->menu_len = (size_t)made;
+        write_copy(line);
         line_step(line, TAILSPRIG_EVENT_AGREED_CM, tailsprig_choice(menu, len, line->menu, line->menu_len), now);
     }
 }
@@ -142,21 +142,21 @@ static void line_hear(struct line *line, uint8_t bit, uint32_t now)
     }
 }
 
-/* The next bit to the line; 1s where nothing is sent. */
+/* The next bit to the line; 1s where nothing is sent. A menu is sent until the state changes, CJ once. */
 static uint8_t line_bit(struct line *line, uint32_t now)
 {
-    if (line->sending_len == 0)
+    size_t end = end_of(line), at = place_of(line);
+
+    line->sent = 0;
+    if (end <= at)
         return 1;
 
-    uint8_t bit = line->sending[line->sent++];
+    uint8_t bit = line->bits[at];
 
-    if (line->sent == line->sending_len) {
-        line->sent = 0;
-        if (!line->again) {
-            line->sending_len = 0;
-            line_step(line, TAILSPRIG_EVENT_CJ_SENT, 0, now);
-        }
-    }
+    if (at + 1 < end)
+        line->sent = at + 1;
+    else if (line->session.state == TAILSPRIG_STATE_CLOSING)
+        line_step(line, TAILSPRIG_EVENT_CJ_SENT, 0, now);
     return bit;
 }
 
@@ -202,6 +202,7 @@ int main(void)
     if (made < 0)
         return 1;
     caller.menu_len = (size_t)made;
+    write_copy(&caller);
     line_start(&caller, tailsprig_start_caller_default(0));
     line_start(&answerer, tailsprig_start_answerer(0));
     memset(there.bits, 1, sizeof there.bits);

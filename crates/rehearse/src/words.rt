@@ -1,184 +1,216 @@
-// Words of a text: where they stand, and the numbers that they are.
-ghost use Prim.Native.Nat.{_≤_};
-ghost use lib.ListN.{length};
+// Every text that is printed, a line for each, and a way to print one of them.
+use std::num::wrapping_add_u8;
 
-// What is looked for in a text.
-pub const LINE_END: u8 = 0;
+// Where texts stand in the table; those of a group are counted from there. States and what is heard have their words from 1 on.
+pub const WORDS: u8 = 0;
 
-pub const COMMENT: u8 = 1;
+pub const CHOICES: u8 = 14;
 
-pub const COLON: u8 = 2;
+pub const SENDS: u8 = 40;
 
-pub const BLANK: u8 = 3;
+pub const CI: u8 = 51;
 
-pub const NOT_BLANK: u8 = 4;
+pub const MENUS: u8 = 51;
 
-// What `number` and `items` answer for a text that is none: more than any of them.
-pub const NO_NUMBER: usize = 100000;
+pub const CJ: u8 = 54;
 
-// The end of a line in CR LF is a blank and the end of a line.
-fn is_blank(b: u8) -> bool {
-    if b == b' ' {
-        return true;
+pub const AGREED: u8 = 55;
+
+pub const REFUSALS: u8 = 55;
+
+pub const OUTCOMES: u8 = 69;
+
+pub const GO_ON_BOTH: u8 = 75;
+
+pub const BOTH_ENDS: u8 = 76;
+
+pub const ENDS_DIFFER: u8 = 77;
+
+pub const ANSWERER: u8 = 78;
+
+pub const NOT_OVER: u8 = 79;
+
+pub const OPTIONS: u8 = 80;
+
+pub const COLON: u8 = 84;
+
+pub const MISTAKES: u8 = 85;
+
+pub const LINE: u8 = 105;
+
+pub const BEFORE_WORD: u8 = 106;
+
+pub const BEHIND_WORD: u8 = 108;
+
+pub const TOO_LONG: u8 = 110;
+
+pub const ARROWS: u8 = 111;
+
+pub const NO_CM: u8 = 113;
+
+// The line of the byte behind a byte.
+fn line_behind(line: u8, b: u8) -> u8 {
+    if b == b'\n' {
+        return wrapping_add_u8(line, 1);
     }
-    if b == b'\t' {
-        return true;
-    }
-    b == b'\r'
+    line
 }
 
-fn is_sought(b: u8, sought: u8) -> bool {
-    if sought == LINE_END {
-        return b == b'\n';
-    }
-    if sought == COMMENT {
-        return b == b'#';
-    }
-    if sought == COLON {
-        return b == b':';
-    }
-    if sought == BLANK {
-        return is_blank(b);
-    }
-    if is_blank(b) {
-        return false;
-    }
-    true
-}
-
-// The first place from `at` on of what is sought, or the end of the text.
-pub fn find(text: &[u8], at: usize, sought: u8) -> usize
-    requires { ⌜ at ≤ length (now text) ⌝ }
-    ensures { λ r. ⌜ (at ≤ r) × (r ≤ length (now (text .entry))) ⌝ }
-{
-    let mut i = at;
-    while i < text.len() {
-        if is_sought(text[i], sought) {
-            return i;
-        }
-        i += 1;
-    }
-    i
-}
-
-// The part of a text between two places, empty where there is none.
-pub fn part(text: &[u8], from: usize, to: usize) -> &[u8] {
-    if to <= text.len() {
-        if from <= to {
-            return &text[from..to];
-        }
-        return &text[0..0];
-    }
-    &text[0..0]
-}
-
-// The place behind the first so many words of a line, or its end where there are fewer.
-pub fn behind_words(line: &[u8], count: usize) -> usize
-    ensures { λ r. ⌜ r ≤ length (now (line .entry)) ⌝ }
-{
-    let mut at: usize = 0;
-    let mut i: usize = 0;
-    while i < count {
-        at = find(line, find(line, at, NOT_BLANK), BLANK);
-        i += 1;
+// A byte, where there is room.
+pub fn put(out: &mut [u8], at: usize, b: u8) -> usize {
+    if at < out.len() {
+        out[at] = b;
+        return at + 1;
     }
     at
 }
 
-// A line of a text, the first at 0; empty where there are fewer.
-pub fn line(text: &[u8], at: usize) -> &[u8] {
-    let mut from: usize = 0;
-    let mut i: usize = 0;
-    while i < at {
-        let to = find(text, from, LINE_END);
-        if to == text.len() {
-            return part(text, 0, 0);
-        }
-        from = to + 1;
-        i += 1;
-    }
-    part(text, from, find(text, from, LINE_END))
-}
-
-// A word of a line, the first at 0; empty where there are fewer.
-pub fn word(line: &[u8], at: usize) -> &[u8] {
-    let from = find(line, behind_words(line, at), NOT_BLANK);
-    let to = find(line, from, BLANK);
-    part(line, from, to)
-}
-
-// The value of a hexadecimal digit, 16 for any other byte.
-fn digit_value(b: u8) -> usize
-    ensures { λ r. ⌜ r ≤ 16 ⌝ }
-{
-    if b < b'0' {
-        return 16;
-    }
-    if b <= b'9' {
-        return (b - b'0') as usize;
-    }
-    if b < b'A' {
-        return 16;
-    }
-    if b <= b'F' {
-        return (b - 55) as usize;
-    }
-    if b < b'a' {
-        return 16;
-    }
-    if b <= b'f' {
-        return (b - 87) as usize;
-    }
-    16
-}
-
-// A decimal number below 100,000.
-pub fn number(text: &[u8]) -> usize {
-    if text.len() == 0 {
-        return NO_NUMBER;
-    }
-    let mut n: usize = 0;
+// Puts the lines of a text from one to another, the first at 0. The number of a kind stands for its names.
+pub fn put_lines(out: &mut [u8], at: usize, text: &[u8], first: u8, last: u8) -> usize {
+    let mut n = at;
+    let mut line: u8 = 0;
     let mut i: usize = 0;
     while i < text.len() {
-        let digit = digit_value(text[i]);
-        if 9 < digit {
-            return NO_NUMBER;
-        }
-        if 9999 < n {
-            return NO_NUMBER;
-        }
-        n = 10 * n + digit;
+        let b = text[i];
+        let of = line;
         i += 1;
+        line = line_behind(line, b);
+        if of < first {
+            continue;
+        }
+        if last < line {
+            return n;
+        }
+        if b < b'\n' {
+            n = names::put_names(out, n, b, 65535);
+            continue;
+        }
+        n = put(out, n, b);
     }
     n
 }
 
-fn two_digits(high: usize, low: usize) -> usize
-    requires { ⌜ high ≤ 16 ⌝ }
-    requires { ⌜ low ≤ 16 ⌝ }
-    ensures { λ r. ⌜ r ≤ 100000 ⌝ }
-{
-    if high == 16 {
-        return NO_NUMBER;
-    }
-    if low == 16 {
-        return NO_NUMBER;
-    }
-    16 * high + low
-}
+// Puts a text of the table: one of a group.
+pub fn put_words(out: &mut [u8], at: usize, group: u8, number: u8) -> usize {
+    let line = wrapping_add_u8(group, number);
+    put_lines(
+        out,
+        at,
+        b"
+still
+calling
+quiet
+menu
+closing
+pause
+still
+answering
+joint
+over
+hears
+agreed
+refused
+ no shared mode
+ item 1 (V.34 duplex)
+ item 2 (V.34 half duplex)
+ item 3 (V.32 bis)
+ item 4 (V.22 bis)
+ item 5 (V.17)
+ item 6 (V.29 half duplex)
+ item 7 (V.27 ter)
+ item 8 (V.26 ter)
+ item 9 (V.26 bis)
+ item 10 (V.23 duplex)
+ item 11 (V.23 half duplex)
+ item 12 (V.21)
 
-// A set of items: four hexadecimal digits.
-pub fn items(text: &[u8]) -> usize {
-    if text.len() != 4 {
-        return NO_NUMBER;
-    }
-    let high = two_digits(digit_value(text[0]), digit_value(text[1]));
-    let low = two_digits(digit_value(text[2]), digit_value(text[3]));
-    if high == NO_NUMBER {
-        return NO_NUMBER;
-    }
-    if low == NO_NUMBER {
-        return NO_NUMBER;
-    }
-    256 * high + low
+
+
+
+ PCM (answerer analogue)
+ PCM (answerer digital)
+ PCM (answerer analogue, answerer digital)
+ PCM (V.91)
+ PCM (answerer analogue, V.91)
+ PCM (answerer digital, V.91)
+ PCM (answerer analogue, answerer digital, V.91)
+ a choice that is refused (11)
+
+
+
+
+
+ CM
+ CJ
+
+
+ ANSam
+ JM
+
+ CI
+ JM
+ CM
+ CJ
+
+ refusal 1
+ refusal 2
+ refusal 3
+ refusal 4
+ refusal 5
+ refusal 6
+ refusal 7
+ refusal 8
+ refusal 9
+ refusal 10
+ refusal 11
+ refusal 12
+ refusal 13
+
+ left
+ gave up, late
+ cleared, no mode is shared
+ ended, the choice was not offered
+ goes on with
+ go on with
+both ends
+the ends differ: the caller
+; the answerer
+the call is not over after 30 seconds
+
+, LAPM
+, access
+, LAPM, access
+
+:
+expected a line that begins with one of:\x01\x02
+expected a function:\x03; a modulation:\x04\x05; or one of:\x06\x08; behind wants:\x07
+expected the home function, one of:\x03
+expected what the end wants, one of:\x07
+expected the function of the call, one of:\x03
+expected Te in milliseconds, a number from 500 to 5000
+expected the end whose bits are damaged, one of:\x01
+expected a damaged bit, a number from 0 to 8999
+expected a damaged bit, a number from 0 to 8999
+expected the end of the line
+this is said already
+expected a function before the modulations that belong to it, one of:\x03
+expected a function that the end has, one of:\x03
+the home function is not among the functions of the end
+PCM-analogue and PCM-digital are offered beside V.34 alone
+the text ends without a line 'caller'
+the text ends without a line 'answerer'
+the text ends without a line 'call'
+the caller has not the function of the call
+line\x20
+, at its end
+, '
+:\x20
+':\x20
+the text is longer than 131071 bytes
+<-----------------------------------------------------------------
+----------------------------------------------------------------->
+the caller can make no CM for its call",
+        line,
+        line,
+    )
 }

@@ -1,11 +1,11 @@
--- `rehearse::telling::put_octets` is safe and ends. Invariant: the page is as long as it was lent, however much is put on it.
+-- `rehearse::ladder::put_octets` is safe and ends. Invariant: the page is as long as it was lent.
 -- Assumes nothing.
 use borrow.Author.Needs.{needs}
 use Prim.Native.Nat.{_-_}
 use mathlib.Core.Path.{_≡_}
 use lib.ListN.{length}
-use Rattle.rehearse.proofs.telling.put_octets.Statement.{statement}
-use Rattle.rehearse.proofs.telling.put_octets.Tie as tie
+use Rattle.rehearse.proofs.ladder.put_octets.Statement.{statement}
+use Rattle.rehearse.proofs.ladder.put_octets.Tie as tie
 
 abbrev Inv-loop : tie.InvT-loop
 Inv-loop out₀ at octets n₀ i₀ t6 out n i = length out ≡ length out₀
