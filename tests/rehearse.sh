@@ -1,9 +1,10 @@
 #!/usr/bin/env bash
 # rehearse.sh PROGRAM DIR: runs the rehearsing program on every DIR/NAME.call and compares what it prints, byte for byte,
-# with NAME.timeline, as a file and through a pipe in pieces of odd sizes; then on texts that are wrong, each with the one
-# line that it must get; then on every call cut off at every byte and on random bytes, which must get a timeline or one line,
-# and an end of the program that is no crash. Prints what differs; exits with 1 on a difference and with 2 where there is
-# nothing to run.
+# with NAME.timeline, as a file and through a pipe in pieces of odd sizes, and does the same with the plan that stands above
+# each ladder; then on the same call in other words; then on texts that are wrong, each with the one line that it must get;
+# then on random plans, on every call cut off at every byte and on random bytes, which must get a plan and a ladder or one
+# line, and an end of the program that is no crash. Prints what differs; exits with 1 on a difference and with 2 where there
+# is nothing to run.
 set -uo pipefail
 
 program=${1:?the rehearsing program}
@@ -11,131 +12,344 @@ calls=${2:?the folder of the calls}
 . "$(dirname "$0")/programs.sh"
 pieces=(1 7 2 31 1 64 10)
 
-# refuses NAME TEXT LINE: a text, with the escapes of printf %b, and the one line that it must get.
-refuses() {
-    printf '%b' "$2" >"$work/input"
-    printf '%s\n' "$3" >"$work/expected"
-    check "$program" "$1" "$work/input" "$work/expected" "${pieces[@]}"
+heading='   ms  caller                                                                         answerer'
+
+# The names, as the texts list them.
+lines='caller answerer call Te damaged'
+functions='H.324 textphone videotex fax-sent fax-received data'
+modes='V.34 V.34-half-duplex V.32bis V.22bis V.17 V.29-half-duplex V.27ter V.26ter V.26bis V.23 V.23-half-duplex V.21'
+modes+=' PCM-analogue PCM-digital V.91'
+other_modes='V.32 V.22'
+parts='home wants'
+wanted='LAPM access'
+qualities='cellular digital'
+access='caller-cellular answerer-cellular digital-network'
+
+# The mistakes, by their numbers in plans.
+mistakes=(
+    ''
+    "expected a line that begins with one of: $lines"
+    "expected a function: $functions; a modulation: $modes $other_modes; or one of: $parts $qualities; behind wants: $wanted"
+    "expected the home function, one of: $functions"
+    "expected what the end wants, one of: $wanted"
+    "expected the function of the call, one of: $functions"
+    'expected Te in milliseconds, a number from 500 to 5000'
+    'expected the end whose bits are damaged, one of: caller answerer'
+    'expected a damaged bit, a number from 0 to 8999'
+    'expected a damaged bit, a number from 0 to 8999'
+    'expected the end of the line'
+    'this is said already'
+    "expected a function before the modulations that belong to it, one of: $functions"
+    "expected a function that the end has, one of: $functions"
+    'the home function is not among the functions of the end'
+    'PCM-analogue and PCM-digital are offered beside V.34 alone'
+    "the text ends without a line 'caller'"
+    "the text ends without a line 'answerer'"
+    "the text ends without a line 'call'"
+    'the caller has not the function of the call'
+)
+
+# text TEXT: the input of the next runs, with the escapes of printf %b.
+text() {
+    printf '%b' "$1" >"$work/input"
 }
 
-# survives NAME: what the text $work/input gets, whatever it is, is a timeline or one line, and no crash.
+# same NAME TEXT: the call of an example in other words has its plan and its ladder.
+same() {
+    text "$2"
+    check "$program" "$1" "$work/input" "$calls/v32bis.timeline" "${pieces[@]}"
+}
+
+# understood NAME TEXT PLAN: a text, and the plan that must stand above its ladder.
+understood() {
+    text "$2"
+    printf '%b\n' "$3" >"$work/expected"
+    "$program" <"$work/input" | plan >"$work/printed"
+    compare "$1" "$work/expected" "${PIPESTATUS[0]}"
+}
+
+# plan: what stands above the empty line of its input; all of it where there is none.
+plan() {
+    sed '/^$/,$d'
+}
+
+# refuses NAME TEXT PLACE NUMBER: a text and the line that it must get: its place, as "line 2, 'x'", and the number of the mistake. A
+# mistake of the whole text has no place.
+refuses() {
+    text "$2"
+    printf '%s\n' "${3:+$3: }${mistakes[$4]}" >"$work/expected"
+    check "$program" "$1" "$work/input" "$work/expected" "${pieces[@]}"
+    tried[$4]=1
+}
+
+# survives NAME: keeps what the text $work/input gets, whatever it is, for `sound`.
 survives() {
     runs=$((runs + 1))
-    "$program" <"$work/input" >"$work/printed"
-    local status=$? lines first
-    lines=$(wc -l <"$work/printed")
-    IFS= read -r first <"$work/printed"
-    if [ "$status" -eq 0 ] && { [ "$lines" -eq 1 ] || [ "$first" = "   ms  end       what" ]; }; then
-        return
-    fi
-    printf '%s: ended with %s, %s lines\n' "$1" "$status" "$lines"
-    differ=$((differ + 1))
+    {
+        printf '== %s\n' "$1"
+        "$program" <"$work/input" || printf 'ended with %s\n' $?
+    } >>"$work/kept"
+}
+
+# sound: all that `survives` kept is one line, or a plan and a ladder: its rows in columns, at most 100 of them, in the order of time,
+# no blanks at their ends, and how the call ended in the last line.
+sound() {
+    LC_ALL=C awk -v heading="$heading" '
+        function wrong(why) { printf "%s: %s\n", name, why }
+        function ends(line,    choice, ended) {
+            choice = " (item [1-9][0-2]? \\(V\\.[^()]*\\)|PCM \\([^()]*\\))"
+            ended = "(left|gave up, late|cleared, no mode is shared|ended, the choice was not offered"
+            if (line ~ "^both ends " ended "|go on with" choice ")$") return 1
+            ended = ended "|goes on with" choice ")"
+            if (line ~ "^the ends differ: the caller " ended "; the answerer " ended "$") return 1
+            return line == "the call is not over after 30 seconds"
+        }
+        function look(    i, row, clock, before) {
+            if (name == "" || n == 1 && line[1] ~ /^(line [0-9]+, (at its end|\047.*\047): |the text )./) return
+            for (i = 1; i <= n; i++) if (line[i] ~ /[ \t\r]$/) return wrong("blanks at the end of " line[i])
+            if (line[1] !~ /^caller    / || line[2] !~ /^answerer  /) return wrong("no ends: " line[1])
+            if (line[3] !~ /^call      / || line[4] !~ /^Te        [0-9]+$/) return wrong("no call: " line[3])
+            for (i = 5; line[i] ~ /^damaged   (caller|answerer)( [0-9]+)+$/; i++) ;
+            if (line[i] != "" || line[i + 1] != heading) return wrong("no heading: " line[i])
+            for (i += 2; i < n; i++) {
+                row = line[i]
+                if (length(row) > 100) return wrong("a row of " length(row) " columns: " row)
+                clock = substr(row, 1, 5)
+                if (clock == "     ") continue
+                if (clock !~ /^ *[0-9]+$/ || clock + 0 < before + 0) return wrong("no time: " row)
+                if ((substr(row, 8, 11) ~ /^[a-z]+ *$/) == (substr(row, 87) ~ /^[a-z]+$/)) return wrong("not one end: " row)
+                before = clock
+            }
+            if (!ends(line[n])) wrong("no ending: " line[n])
+        }
+        /^== / { look(); name = substr($0, 4); n = 0; split("", line); next }
+        { line[++n] = $0 }
+        END { look() }
+    ' "$work/kept" >"$work/unsound"
+    cat "$work/unsound"
+    differ=$((differ + $(wc -l <"$work/unsound")))
 }
 
 command -v "$program" >/dev/null || { printf '%s: no program\n' "$program"; exit 2; }
 for call in "$calls"/*.call; do
     [ -f "$call" ] || { printf '%s: no calls\n' "$calls"; exit 2; }
     check "$program" "$call" "$call" "${call%.call}.timeline" "${pieces[@]}"
+    plan <"${call%.call}.timeline" >"$work/plan"
+    check "$program" "the plan of $call" "$work/plan" "${call%.call}.timeline" "${pieces[@]}"
 done
 
-none='0:0000:0 0:0000:0 0:0000:0 0:0000:0 0:0000:0'
-caller="caller $none 1:101A:0 6 1000"
-answerer="answerer $none 1:0118:0 6 0000"
-whole="$caller\n$answerer\nfunction 6\n"
+caller='caller data V.34 V.32bis V.22bis V.21, wants LAPM'
+answerer='answerer data V.32bis V.22bis V.26ter'
+whole="$caller\n$answerer\ncall data\n"
 
-# The text of an example in other forms is the same call.
-same() {
-    printf '%b' "$2" >"$work/input"
-    check "$program" "$1" "$work/input" "$calls/v32bis.timeline" "${pieces[@]}"
-}
-same 'the order of the lines is free' "function 6\n$answerer\n$caller\n"
-same 'the last line feed is missing' "$caller\n$answerer\nfunction 6"
-same 'CR LF' "$caller\r\n$answerer\r\nfunction 6\r\n"
-same 'comments, empty lines, blanks' "# a call\n\n  \t\n$caller # the logger\n\t$answerer\nfunction   6 \n#end"
-same 'lower-case digits, leading zeros' "caller $none 01:101a:00 006 1000\n$answerer\nfunction 06"
-same 'damage that hits no bit that counts' "${whole}damaged caller 0 8999\ndamaged answerer 0 0 0\n"
+same 'one blank between words' "$whole"
+same 'the order of the lines is free' "call data\nTe 500\n$answerer\n$caller\n"
+same 'the last line feed is missing' "$caller\n$answerer\ncall data"
+same 'CR LF' "$caller\r\n$answerer\r\ncall data\r\n"
+same 'comments, empty lines, blanks' "# a call\n\n  \t\n$caller# the logger\n\t$answerer #, V.21\n \tcall \t data \n#end"
+same 'upper and lower case' "CALLER Data v.34 V.32BIS v.22Bis V.21 Wants lapm\nAnswerer DATA v.32bis v.22bis V.26TER\nCALL dAtA\ntE 500"
+same 'no commas' "${caller//,/}\n$answerer\ncall data\n"
+same 'commas everywhere' ",${caller// /,,}, ,\n,\n,${answerer// /,},\ncall,data,\n,"
+same 'modes in another order' "caller data V.21 V.34 V.22bis V.32bis wants LAPM\nanswerer data V.26ter V.22bis V.32bis\ncall data"
+same 'what is wanted first' "caller wants LAPM data V.34 V.32bis V.22bis V.21\n$answerer\ncall data"
+same 'the home function written out' "$caller, home data\nanswerer home data, data V.32bis V.22bis V.26ter\ncall data"
+same 'Te written out' "${whole}Te 500\n"
+same 'Te with leading zeros' "Te 000500\n$whole"
+same 'other names of modes' "${caller//bis/}\nanswerer data V.32 V.22 V.26ter\ncall data"
+text "damaged answerer 0\n${whole}damaged caller 8999, 0\nDamaged Answerer 00 0\n"
+sed '/^Te/a damaged   caller 0 8999\ndamaged   answerer 0' "$calls/v32bis.timeline" >"$work/expected"
+check "$program" 'damage that hits no bit that counts' "$work/input" "$work/expected" "${pieces[@]}"
 
-refuses 'no text' '' "the text ends without a line 'caller'"
-refuses 'comments alone' '# nothing\n\n' "the text ends without a line 'caller'"
-refuses 'no answerer' "$caller\nfunction 6\n" "the text ends without a line 'answerer'"
-refuses 'no function' "$caller\n$answerer\n" "the text ends without a line 'function'"
-refuses 'an unknown line' "$caller\ncalled $none\n" "line 2: a line starts with 'caller', 'answerer', 'function' or 'damaged'"
-refuses 'a name in capitals' 'CALLER' "line 1: a line starts with 'caller', 'answerer', 'function' or 'damaged'"
-refuses 'the bytes 0 and 255' '\0\0377' "line 1: a line starts with 'caller', 'answerer', 'function' or 'damaged'"
-refuses 'a second caller' "$caller\n$answerer\nfunction 6\n$caller\n" "line 4: 'caller' stands twice"
-refuses 'a second answerer' "$answerer\n\n$answerer\n" "line 3: 'answerer' stands twice"
-refuses 'a second function' "function 6\nfunction 6\n" "line 2: 'function' stands twice"
-refuses 'a record without words' 'caller\n' 'line 1: a record has six functions, a home function and four digits'
-refuses 'a record of five functions' "caller $none\n" 'line 1: a record has six functions, a home function and four digits'
-refuses 'a record without its digits' "caller $none 1:101A:0 6\n" 'line 1: a record has six functions, a home function and four digits'
-refuses 'a function without colons' "caller $none 1101A0 6 1000\n" 'line 1: a function of a record is AVAILABLE:ITEMS:PCM, as 1:101A:0'
-refuses 'a function with one colon' "caller $none 1:101A 6 1000\n" 'line 1: a function of a record is AVAILABLE:ITEMS:PCM, as 1:101A:0'
-refuses 'available, in a word' "caller $none y:101A:0 6 1000\n" 'line 1: whether a function is available is a number, 1 or 0'
-refuses 'items of three digits' "$caller\nanswerer $none 1:118:0 6 0000\n" 'line 2: the items of a function are four hexadecimal digits'
-refuses 'items of five digits' "caller $none 1:0101A:0 6 1000\n" 'line 1: the items of a function are four hexadecimal digits'
-refuses 'items with a G' "caller $none 1:101G:0 6 1000\n" 'line 1: the items of a function are four hexadecimal digits'
-refuses 'PCM options without digits' "caller $none 1:101A: 6 1000\n" 'line 1: the PCM options of a function are a number from 0 to 7'
-refuses 'PCM options of 256' "caller $none 1:101A:256 6 1000\n" 'line 1: the PCM options of a function are a number from 0 to 7'
-refuses 'a third colon' "caller $none 1:101A:0:0 6 1000\n" 'line 1: the PCM options of a function are a number from 0 to 7'
-refuses 'a home function in hex' "caller $none 1:101A:0 A 1000\n" 'line 1: the home function is a number from 1 to 6'
-refuses 'three digits at the end' "caller $none 1:101A:0 6 100\n" 'line 1: LAPM wanted, access wanted, cellular and digital are four digits, 1 or 0 each'
-refuses 'a letter at the end' "caller $none 1:101A:0 6 100x\n" 'line 1: LAPM wanted, access wanted, cellular and digital are four digits, 1 or 0 each'
-refuses 'a word behind the record' "$caller 1\n" 'line 1: nothing may follow a record'
-refuses 'a home function that is not available' "caller $none 1:101A:0 5 1000\n" 'line 1: refusal 10, the record is bad'
-refuses 'a home function of 0' "caller $none 1:101A:0 0 1000\n" 'line 1: refusal 10, the record is bad'
-refuses 'item 0 in a set' "$caller\nanswerer $none 1:0119:0 6 0000\n" 'line 2: refusal 10, the record is bad'
-refuses 'item 13 in a set' "caller $none 1:201A:0 6 1000\n" 'line 1: refusal 10, the record is bad'
-refuses 'PCM options of 8' "caller $none 1:101A:8 6 1000\n" 'line 1: refusal 10, the record is bad'
-refuses 'analogue PCM without item 1' "caller $none 1:1018:1 6 1000\n" 'line 1: refusal 10, the record is bad'
-refuses 'available, 2' "caller $none 2:101A:0 6 1000\n" 'line 1: refusal 10, the record is bad'
-refuses 'LAPM wanted, 2' "caller $none 1:101A:0 6 2000\n" 'line 1: refusal 10, the record is bad'
-refuses 'digital, 9' "caller $none 1:101A:0 6 0009\n" 'line 1: refusal 10, the record is bad'
-refuses 'a function that the caller has not' "$caller\n$answerer\n\nfunction 5\n" 'line 4: refusal 5, the caller has no such function'
-refuses 'function 0' "function 0\n$caller\n$answerer\n" 'line 1: refusal 5, the caller has no such function'
-refuses 'function 255' "function 255\n$caller\n$answerer\n" 'line 1: refusal 5, the caller has no such function'
-refuses 'function 256' "function 256\n" "line 1: behind 'function' stands one number, from 1 to 6"
-refuses 'a function without its number' "function\n" "line 1: behind 'function' stands one number, from 1 to 6"
-refuses 'two functions' "function 6 6\n" "line 1: behind 'function' stands one number, from 1 to 6"
-refuses 'damage of no end' "damaged 700\n" "line 1: behind 'damaged' stands 'caller' or 'answerer'"
-refuses 'damage without bits' "damaged caller\n" 'line 1: which bits are damaged is missing'
-refuses 'bit 9000' "damaged caller 8999 9000\n" 'line 1: a damaged bit is a number from 0 to 8999'
-refuses 'a bit before the call' "damaged answerer -1\n" 'line 1: a damaged bit is a number from 0 to 8999'
-refuses 'a bit that is far too large' "damaged answerer 18446744073709551616\n" 'line 1: a damaged bit is a number from 0 to 8999'
-refuses 'the first of two wrong lines' "function x\ndamaged\n" "line 1: behind 'function' stands one number, from 1 to 6"
+every_function=''
+for function in $functions; do
+    every_function+=" $function $modes,"
+done
+tail=' home fax-sent, wants LAPM, wants access, cellular digital'
+reversed=' digital cellular wants access wants LAPM home fax-sent'
+understood 'every name, in upper and in lower case' \
+    "CALLER${every_function^^}${tail^^}\nanswerer$reversed${every_function,,}\ncall textphone\nTe 5000" \
+    "caller   $every_function$tail\nanswerer $every_function$tail\ncall      textphone\nTe        5000"
+understood 'the first function is the home function' "answerer videotex, H.324\ncaller data, textphone V.21\ncall textphone" \
+    'caller    textphone V.21, data, home data\nanswerer  H.324, videotex, home videotex\ncall      textphone\nTe        500'
+understood 'sixteen damaged bits in a line' "damaged caller $(seq -s ' ' 17 -1 1)\n${whole}damaged answerer $(seq -s ' ' 16)" \
+    "$(plan <"$calls/v32bis.timeline")\ndamaged   caller $(seq -s ' ' 16)\ndamaged   caller 17\ndamaged   answerer $(seq -s ' ' 16)"
 
-# 65,535 bytes are read, and more are not: a call with a comment that fills the text, and one byte more.
-{ printf '%b#' "$whole"; head -c 70000 /dev/zero | tr '\0' x; } | head -c 65535 >"$work/longest"
-check "$program" 'a text of 65535 bytes' "$work/longest" "$calls/v32bis.timeline" "${pieces[@]}"
+tried=()
+refuses 'an unknown line' "$caller\ncalled data\n" "line 2, 'called'" 1
+refuses 'a function before its end' 'data V.34' "line 1, 'data'" 1
+refuses 'home before its end' "\n\nhome" "line 3, 'home'" 1
+refuses 'a name of an access group at the front' 'caller-cellular' "line 1, 'caller-cellular'" 1
+refuses 'the bytes 0 and 255' '\0\0377' "line 1, '??'" 1
+refuses 'a word of 41 bytes is cut off' "$(seq -s '' 25)z" "line 1, '1234567891011121314151617181920212223242'" 1
+refuses 'a form feed is no blank' "$caller\f\n" "line 1, 'LAPM?'" 4
+refuses 'the first words of a text in UTF-8' '\0357\0273\0277caller data' "line 1, '???caller'" 1
+refuses 'an unknown modulation' "$caller\nanswerer data V.90\n" "line 2, 'V.90'" 2
+refuses 'a modulation with a blank' 'caller data V.32 bis' "line 1, 'bis'" 2
+refuses 'LAPM without wants' 'caller data LAPM' "line 1, 'LAPM'" 2
+refuses 'a line within a line' 'caller data answerer data' "line 1, 'answerer'" 2
+refuses 'an option of an access group' 'answerer data digital-network' "line 1, 'digital-network'" 2
+refuses 'a record in hexadecimal' 'caller 0:0000:0' "line 1, '0:0000:0'" 2
+refuses 'home without a function' 'caller data home V.34' "line 1, 'V.34'" 3
+refuses 'home at the end of a line' "caller data home\n$answerer" 'line 1, at its end' 3
+refuses 'home before a comment' "caller data home # data\n" 'line 1, at its end' 3
+refuses 'home at the end of the text' 'caller data home' 'line 1, at its end' 3
+refuses 'digital wanted' 'caller data wants digital' "line 1, 'digital'" 4
+refuses 'two things behind one wants' 'caller data wants LAPM access' "line 1, 'access'" 2
+refuses 'wants at the end of a line' "\nanswerer data wants\n" 'line 2, at its end' 4
+refuses 'wants at the end of the text' 'answerer data wants,' 'line 1, at its end' 4
+refuses 'a call by number' "$caller\ncall 6" "line 2, '6'" 5
+refuses 'a call of an end' 'call answerer' "line 1, 'answerer'" 5
+refuses 'call at the end of a line' "call\ndata\n" 'line 1, at its end' 5
+refuses 'call at the end of the text' "$caller\ncall" 'line 2, at its end' 5
+refuses 'Te of 499' 'Te 499' "line 1, '499'" 6
+refuses 'Te of 5001' "$whole\nTe 5001" "line 5, '5001'" 6
+refuses 'Te with its unit' 'Te 500ms' "line 1, '500ms'" 6
+refuses 'Te that is far too large' 'Te 18446744073709552116' "line 1, '18446744073709552116'" 6
+refuses 'Te at the end of a line' "Te\n500" 'line 1, at its end' 6
+refuses 'Te at the end of the text' "${whole}Te" 'line 4, at its end' 6
+refuses 'damage of no end' 'damaged 700' "line 1, '700'" 7
+refuses 'damage of a function' 'damaged data 700' "line 1, 'data'" 7
+refuses 'damaged at the end of a line' "damaged\n" 'line 1, at its end' 7
+refuses 'damaged at the end of the text' 'damaged' 'line 1, at its end' 7
+refuses 'bit 9000 first' "damaged caller 9000\n" "line 1, '9000'" 8
+refuses 'damage of both ends' 'damaged caller answerer 700' "line 1, 'answerer'" 8
+refuses 'damage without bits' "$caller\ndamaged caller\n" 'line 2, at its end' 8
+refuses 'damage without bits at the end of the text' 'damaged answerer # 5' 'line 1, at its end' 8
+refuses 'bit 9000 behind another' 'damaged caller 8999 9000' "line 1, '9000'" 9
+refuses 'a bit before the call' 'damaged answerer 1, -1' "line 1, '-1'" 9
+refuses 'a bit that is far too large' 'damaged answerer 0 4294967296' "line 1, '4294967296'" 9
+refuses 'a range of bits' 'damaged answerer 1 .. 5' "line 1, '..'" 9
+refuses 'two functions called' "$caller\ncall data data" "line 2, 'data'" 10
+refuses 'a modulation called' "call data V.34\n" "line 1, 'V.34'" 10
+refuses 'two times of Te' 'Te 500, 501' "line 1, '501'" 10
+refuses 'a second caller' "$whole$caller\n" "line 4, 'caller'" 11
+refuses 'a second answerer' "$answerer\n\nANSWERER" "line 3, 'ANSWERER'" 11
+refuses 'a second call' "call data\ncall data\n" "line 2, 'call'" 11
+refuses 'a second Te' "Te 500\n${whole}Te 500" "line 5, 'Te'" 11
+refuses 'a function twice' "caller data V.34, videotex, DATA V.21" "line 1, 'DATA'" 11
+refuses 'a modulation twice' 'caller data V.34 V.21 v.34' "line 1, 'v.34'" 11
+refuses 'a modulation by both names' 'caller data V.32bis V.32' "line 1, 'V.32'" 11
+refuses 'two home functions' 'caller data home data home data' "line 1, 'data'" 11
+refuses 'LAPM wanted twice' "$caller wants LAPM" "line 1, 'LAPM'" 11
+refuses 'cellular twice' 'caller data cellular, cellular' "line 1, 'cellular'" 11
+refuses 'a modulation before the functions' 'caller V.34 data' "line 1, 'V.34'" 12
+refuses 'a modulation behind the home function' 'caller data home data V.34' "line 1, 'V.34'" 12
+refuses 'a modulation behind what is wanted' "$caller V.91" "line 1, 'V.91'" 12
+refuses 'a modulation behind what a line is' 'answerer data digital V.22' "line 1, 'V.22'" 12
+refuses 'an end without words' "caller\n$answerer" 'line 1, at its end' 13
+refuses 'an end that only wants' "$caller\nanswerer wants LAPM, cellular" 'line 2, at its end' 13
+refuses 'a home function that is not there' "caller data home H.324\n" 'line 1, at its end' 14
+refuses 'a home function alone' "$caller\nanswerer home data" 'line 2, at its end' 14
+refuses 'analogue PCM without V.34' "caller data V.32bis PCM-analogue\n" 'line 1, at its end' 15
+refuses 'digital PCM beside the V.34 of another function' 'answerer data V.34, videotex PCM-digital' 'line 1, at its end' 15
+refuses 'comments alone' '# nothing\n\n' '' 16
+refuses 'no caller' "$answerer\ncall data\n" '' 16
+refuses 'no answerer' "$caller\ncall data\n" '' 17
+refuses 'no call' "$caller\n$answerer" '' 18
+refuses 'no call, its word in a comment' "$caller\n$answerer\n# call data\n" '' 18
+refuses 'a function that the caller has not' "$caller\n$answerer\n\ncall fax-sent\n" "line 4, 'fax-sent'" 19
+refuses 'a caller that has not the function' "call textphone\n$caller\n$answerer" 'line 2, at its end' 19
+refuses 'a last line that has not the function' "call textphone\n$answerer\n$caller" 'line 3, at its end' 19
+refuses 'the first of two wrong lines' "call x\nTe y\n" "line 1, 'x'" 5
+refuses 'the first of two wrong words' 'caller data V.90 LAPM' "line 1, 'V.90'" 2
+refuses 'a word, then what is wrong with the end' 'answerer data PCM-digital V.90' "line 1, 'V.90'" 2
+refuses 'a home function, then PCM' 'caller data PCM-digital home H.324' 'line 1, at its end' 14
+refuses 'PCM, then the function of the call' "call videotex\ncaller data PCM-digital\n" 'line 2, at its end' 15
+refuses 'a wrong line before what is missing' "$caller\nTe 400" "line 2, '400'" 6
+refuses 'the function of the call, then what is missing' "$caller\ncall H.324" "line 2, 'H.324'" 19
+if [ "${#tried[@]}" -ne 19 ]; then
+    printf 'mistakes that no text is tried for: %s of 19 are\n' "${#tried[@]}"
+    differ=$((differ + 1))
+fi
+
+# No text gets the help, with every name in it.
+"$program" </dev/null >"$work/printed"
+head -n 1 "$work/printed" >"$work/input"
+printf 'A call text says what both ends can do, and what the caller calls for:\n' >"$work/expected"
+cmp -s "$work/input" "$work/expected" || { printf 'no text: no help\n'; differ=$((differ + 1)); }
+for name in $lines $functions $modes $other_modes $parts $wanted $qualities $access; do
+    runs=$((runs + 1))
+    sed -n '/^Lines:/,$p' "$work/printed" | tr ' ' '\n' | grep -qxF -- "$name" || { printf 'the help: %s is not in it\n' "$name"; differ=$((differ + 1)); }
+done
+
+# 131,071 bytes are read, and more are not: a call with a comment that fills the text, and one byte more.
+{ printf '%b#' "$whole"; head -c 140000 /dev/zero | tr '\0' x; } | head -c 131071 >"$work/longest"
+check "$program" 'a text of 131071 bytes' "$work/longest" "$calls/v32bis.timeline" "${pieces[@]}"
 printf 'x' | cat "$work/longest" - >"$work/longer"
-printf 'the text is longer than 65535 bytes\n' >"$work/expected"
-check "$program" 'a text of 65536 bytes' "$work/longer" "$work/expected" "${pieces[@]}"
+printf 'the text is longer than 131071 bytes\n' >"$work/expected"
+check "$program" 'a text of 131072 bytes' "$work/longer" "$work/expected" "${pieces[@]}"
 cat "$work/longer" "$work/longer" >"$work/input"
-check "$program" 'a text of 131072 bytes' "$work/input" "$work/expected" "${pieces[@]}"
-head -c 65535 /dev/zero | tr '\0' ' ' >"$work/input"
-printf "the text ends without a line 'caller'\n" >"$work/expected"
-check "$program" 'a line of 65535 blanks' "$work/input" "$work/expected" "${pieces[@]}"
+check "$program" 'a text of 262144 bytes' "$work/input" "$work/expected" "${pieces[@]}"
+head -c 131071 /dev/zero | tr '\0' ' ' >"$work/input"
+printf '%s\n' "${mistakes[16]}" >"$work/expected"
+check "$program" 'a line of 131071 blanks' "$work/input" "$work/expected" "${pieces[@]}"
+head -c 131071 /dev/zero | tr '\0' 1 >"$work/input"
+printf "line 1, '%s': %s\n" "$(head -c 40 "$work/input")" "${mistakes[1]}" >"$work/expected"
+check "$program" 'a word of 131071 bytes' "$work/input" "$work/expected" "${pieces[@]}"
+
+# The longest plan, with every bit damaged, is printed and read back.
+{ printf '%b' "$whole"; printf 'damaged caller %s\ndamaged answerer %s\n' "$(seq -s ' ' 0 8999)" "$(seq -s ' ' 0 8999)"; } >"$work/input"
+"$program" <"$work/input" >"$work/longest"
+plan <"$work/longest" >"$work/input"
+check "$program" 'the plan of a call with every bit damaged' "$work/input" "$work/longest" "${pieces[@]}"
+
+# A random plan, in words: it is understood, and its plan above the ladder, as a text, gets the same.
+random_call() {
+    LC_ALL=C awk -v seed="$1" -v functions="$functions" -v modes="$modes" '
+        function below(n) { return int(rand() * n) }
+        function end(name, must,    i, j, text) {
+            text = name
+            for (i = 1; i <= 6; i++) if (i == must || below(2)) {
+                text = text " " function_of[i] " V.34"
+                for (j = 2; j <= 15; j++) if (below(3) == 0) text = text " " mode_of[j]
+            }
+            if (below(2)) text = text " home " function_of[must]
+            if (below(2)) text = text " wants LAPM"
+            if (below(2)) text = text " wants access"
+            return text (below(2) ? " cellular" : "") (below(2) ? " digital" : "")
+        }
+        BEGIN {
+            srand(seed); split(functions, function_of, " "); split(modes, mode_of, " "); called = 1 + below(6)
+            print end("caller", called); print end("answerer", 1 + below(6)); print "call " function_of[called]
+            if (below(2)) print "Te " 500 + below(4501)
+            for (i = below(40); i > 0; i--) print "damaged " (below(2) ? "caller " : "answerer ") 450 + below(700)
+        }'
+}
+for ((n = 1; n <= 100; n++)); do
+    random_call "$n" >"$work/input"
+    survives "random plan $n"
+    "$program" <"$work/input" >"$work/first"
+    plan <"$work/first" >"$work/plan"
+    grep -qxF "$heading" "$work/first" || { printf 'random plan %s: no ladder\n' "$n"; differ=$((differ + 1)); }
+    "$program" <"$work/plan" >"$work/printed"
+    compare "random plan $n, its plan" "$work/first" $?
+done
 
 for call in "$calls"/*.call; do
-    size=$(wc -c <"$call")
-    for ((bytes = 0; bytes < size; bytes++)); do
-        head -c "$bytes" "$call" >"$work/input"
+    content=$(<"$call")
+    for ((bytes = 1; bytes < ${#content}; bytes++)); do
+        printf '%s' "${content:0:bytes}" >"$work/input"
         survives "$call, its first $bytes bytes"
     done
 done
 
-# random SEED COUNT ALPHABET: so many characters of an alphabet, the same for the same seed.
+# random SEED COUNT SEPARATOR WORD..: so many words, the same for the same seed.
 random() {
-    LC_ALL=C awk -v seed="$1" -v count="$2" -v alphabet="$3" 'BEGIN {
-        srand(seed)
-        for (i = 0; i < count; i++) printf "%s", substr(alphabet, 1 + int(rand() * length(alphabet)), 1)
-    }'
+    LC_ALL=C awk 'BEGIN {
+        srand(ARGV[1])
+        for (i = 0; i < ARGV[2]; i++) printf "%s%s", ARGV[4 + int(rand() * (ARGC - 4))], ARGV[3]
+    }' "$@"
 }
-every=$(LC_ALL=C awk 'BEGIN { for (i = 1; i < 256; i++) if (i != 10 && i != 92) printf "%c", i }')
+mapfile -t bytes < <(LC_ALL=C awk 'BEGIN { for (i = 1; i < 256; i++) if (i != 10) printf "%c\n", i }')
+read -ra words <<<"$lines $functions $modes $other_modes $parts $wanted $qualities $access 500 0 8999 9000 # ,"
 for ((n = 1; n <= 40; n++)); do
-    random "$n" $((n * n * 31)) "$every" >"$work/input"
+    random "$n" $((n * n * 31)) '' "${bytes[@]}" $'\n' >"$work/input"
     survives "random bytes, run $n"
-    { printf 'caller '; random "$n" $((n * 9)) '01:A 6#\n'; printf '\nfunction 6\n'; } >"$work/input"
+    { printf 'caller data '; random "$n" "$n" ' ' "${words[@]}" $'\n' data V.34 home wants; } >"$work/input"
     survives "random words, run $n"
+    { printf '%b' "$whole"; random "$n" "$n" $'\n' 'damaged caller 460 531' 'damaged answerer 610' '# Te' ''; } >"$work/input"
+    survives "random lines behind a call, run $n"
 done
 
+sound
 all_alike

@@ -1,47 +1,42 @@
-//! The program `rehearse` ends a call as the model of document 01 says: both ends go on with what the model chooses from the CM and
-//! the JM that it makes of the same two records, or the call is cleared, or the text gets the model's refusal.
+//! The program `rehearse`, through the words of its call texts: it understands what both ends can do as it was said, and ends the call
+//! as the model of document 01 says. Both ends go on with what the model chooses from the CM and the JM that it makes of the same two
+//! records, or the call is cleared, or the text gets the line for what is wrong with a record or with the function of the call.
 use std::{
+    collections::{BTreeMap, BTreeSet},
     fs,
     io::Write,
     path::{Path, PathBuf},
     process::{Command, Stdio},
 };
 use tailsprig::{
-    model::{Choice, Model, Record, Refusal},
+    model::{Choice, Function, Kind, Menu, Model, Record, Refusal},
     numbers, text,
 };
 
-fn root() -> PathBuf {
-    Path::new(env!("CARGO_MANIFEST_DIR")).join("..")
-}
+const FUNCTIONS: [&str; 6] = ["H.324", "textphone", "videotex", "fax-sent", "fax-received", "data"];
 
-/// The rows of a vector file.
-fn rows(name: &str) -> Vec<Vec<String>> {
-    let vectors = fs::read_to_string(root().join("tests/vectors").join(name)).expect("the vectors can be read");
-    vectors.lines().skip(1).map(|row| row.split('\t').map(str::to_string).collect()).collect()
-}
-
-/// A record of the vectors, whose numbers that say yes or no all do.
-fn record(text: &str) -> Record {
-    numbers::record(&text::record(text).expect("a record")).expect("yes or no")
-}
-
-/// What the program prints for a text.
-fn rehearsed(call: &str) -> String {
-    let program = root().join("target/bin/rehearse");
-    let mut child = Command::new(&program)
-        .stdin(Stdio::piped())
-        .stdout(Stdio::piped())
-        .spawn()
-        .unwrap_or_else(|error| panic!("{}: {error}; `rt check rehearse` makes it", program.display()));
-    child.stdin.take().expect("a pipe").write_all(call.as_bytes()).expect("the program reads the text");
-    let output = child.wait_with_output().expect("the program ends");
-    assert!(output.status.success(), "{}: {call}", output.status);
-    String::from_utf8(output.stdout).expect("the program prints text")
-}
-
-/// The items by their names, from 1 on.
+/// The items from 1 on.
 const ITEMS: [&str; 12] = [
+    "V.34",
+    "V.34-half-duplex",
+    "V.32bis",
+    "V.22bis",
+    "V.17",
+    "V.29-half-duplex",
+    "V.27ter",
+    "V.26ter",
+    "V.26bis",
+    "V.23",
+    "V.23-half-duplex",
+    "V.21",
+];
+
+const PCM: [&str; 3] = ["PCM-analogue", "PCM-digital", "V.91"];
+
+const ACCESS: [&str; 3] = ["caller-cellular", "answerer-cellular", "digital-network"];
+
+/// The items by the names that a choice has, from 1 on.
+const CHOSEN: [&str; 12] = [
     "V.34 duplex",
     "V.34 half duplex",
     "V.32 bis",
@@ -56,69 +51,567 @@ const ITEMS: [&str; 12] = [
     "V.21",
 ];
 
-/// The last line for a choice.
-fn ending(choice: Choice) -> String {
-    match choice {
-        Choice::None => "both ends cleared, no mode is shared".to_string(),
-        Choice::Item(item) => format!("both ends go on with item {item} ({})", ITEMS[usize::from(item) - 1]),
-        Choice::Pcm(options) => {
-            let names = [(1, "answerer analogue"), (2, "answerer digital"), (4, "V.91")];
-            let named: Vec<&str> =
-                names.iter().filter(|(option, _)| options & option != 0).map(|(_, name)| *name).collect();
-            format!("both ends go on with PCM ({})", named.join(", "))
+const HEADING: &str = "   ms  caller                                                                         answerer";
+
+const HOME_NOT_HAD: &str = "the home function is not among the functions of the end";
+const PCM_ALONE: &str = "PCM-analogue and PCM-digital are offered beside V.34 alone";
+const CALL_NOT_HAD: &str = "the caller has not the function of the call";
+
+/// Marsaglia's xorshift: the same numbers in every run.
+struct Random(u64);
+
+impl Random {
+    fn below(&mut self, limit: usize) -> usize {
+        self.0 ^= self.0 << 13;
+        self.0 ^= self.0 >> 7;
+        self.0 ^= self.0 << 17;
+        (self.0 >> 33) as usize % limit
+    }
+
+    /// True once in so many times.
+    fn one_in(&mut self, times: usize) -> bool {
+        self.below(times) == 0
+    }
+
+    fn of<'a>(&mut self, some: &[&'a str]) -> &'a str {
+        some[self.below(some.len())]
+    }
+
+    fn shuffle<T>(&mut self, some: &mut [T]) {
+        for last in (1..some.len()).rev() {
+            some.swap(last, self.below(last + 1));
+        }
+    }
+
+    /// A record that can be said in words; one in ten or so is bad.
+    fn record(&mut self) -> Record {
+        let often = 1 + self.below(7);
+        let mut function = || {
+            let available = !self.one_in(3);
+            let pcm = if available && self.one_in(2) { self.below(8) as u8 } else { 0 };
+            let with_v34 = pcm % 4 != 0 && !self.one_in(40);
+            let item = |item: &u8| available && (self.one_in(often) || *item == 1 && with_v34);
+            Function { available, items: (1..=12).filter(item).collect(), pcm }
+        };
+        let functions = [function(), function(), function(), function(), function(), function()];
+        let had: Vec<u8> = (1..=6).filter(|number| functions[usize::from(*number) - 1].available).collect();
+        let home = if had.is_empty() || self.one_in(20) { self.below(6) as u8 + 1 } else { had[self.below(had.len())] };
+        Record {
+            functions,
+            home,
+            lapm: self.one_in(2),
+            access: self.one_in(3),
+            cellular: self.one_in(3),
+            digital: self.one_in(3),
+        }
+    }
+
+    /// A function, most often one that the caller has.
+    fn function(&mut self, caller: &Record) -> u8 {
+        match self.below(6) as u8 + 1 {
+            function if caller.functions[usize::from(function) - 1].available || self.one_in(4) => function,
+            _ => caller.home,
         }
     }
 }
 
-/// What the model says of a call: both menus and the choice, or the line that the text gets.
-fn said(caller: &Record, answerer: &Record, function: u8) -> Result<(Vec<u8>, Vec<u8>, Choice), String> {
-    let model = Model::default();
-    // Any menu shows whether the answerer's record is refused with 10: that comes before what is heard.
-    let answerer_is_bad = model.jm(answerer, &[], 64) == Err(Refusal(10));
-    match model.cm(caller, function, 64) {
-        Err(Refusal(10)) => Err("line 1: refusal 10, the record is bad".to_string()),
-        _ if answerer_is_bad => Err("line 2: refusal 10, the record is bad".to_string()),
-        Err(Refusal(number)) => Err(format!("line 3: refusal {number}, the caller has no such function")),
-        Ok(cm) => {
-            let jm = model.jm(answerer, &cm, 64).expect("a good record answers every CM");
-            let choice = model.choice(&cm, &jm).expect("what we answer was offered");
-            Ok((cm, jm, choice))
+/// What is planned: two ends, the function of the call, Te where it is given, the damaged bits of either end.
+struct Call {
+    ends: [Record; 2],
+    function: u8,
+    te: Option<usize>,
+    damaged: [BTreeSet<usize>; 2],
+}
+
+const ENDS: [&str; 2] = ["caller", "answerer"];
+
+fn name(function: u8) -> &'static str {
+    FUNCTIONS[usize::from(function) - 1]
+}
+
+/// The modes of a function by their names.
+fn modes(items: &[u8], pcm: u8) -> Vec<&'static str> {
+    let items = (1..=12).filter(|item| items.contains(item)).map(|item| ITEMS[usize::from(item) - 1]);
+    items.chain(options(pcm, &PCM)).collect()
+}
+
+/// The names of options, the lowest bit first.
+fn options(options: u8, names: &[&'static str; 3]) -> impl Iterator<Item = &'static str> {
+    let names = *names;
+    (0..3).filter(move |bit| options >> bit & 1 == 1).map(move |bit| names[bit])
+}
+
+/// The names of some of these things.
+fn those<const N: usize>(some: [(bool, &'static str); N]) -> impl Iterator<Item = &'static str> {
+    some.into_iter().filter(|(there, _)| *there).map(|(_, name)| name)
+}
+
+/// A record in words, in the order that a plan has.
+fn plain_record(own: &Record) -> String {
+    let mut said = String::new();
+    for (place, function) in own.functions.iter().enumerate().filter(|(_, function)| function.available) {
+        let names: Vec<&str> = [FUNCTIONS[place]].into_iter().chain(modes(&function.items, function.pcm)).collect();
+        said += &format!("{}, ", names.join(" "));
+    }
+    said += &format!("home {}", name(own.home));
+    said.extend(those([(own.lapm, ", wants LAPM"), (own.access, ", wants access")]));
+    said.extend(those([(own.cellular || own.digital, ","), (own.cellular, " cellular"), (own.digital, " digital")]));
+    said
+}
+
+impl Call {
+    /// The plan that stands above the ladder.
+    fn plain(&self) -> String {
+        let [caller, answerer] = self.ends.each_ref().map(plain_record);
+        let te = self.te.unwrap_or(500);
+        let mut plan =
+            format!("caller    {caller}\nanswerer  {answerer}\ncall      {}\nTe        {te}\n", name(self.function));
+        for (end, bits) in ENDS.iter().zip(&self.damaged) {
+            let bits: Vec<String> = bits.iter().map(usize::to_string).collect();
+            for line in bits.chunks(16) {
+                plan += &format!("damaged   {end} {}\n", line.join(" "));
+            }
+        }
+        plan
+    }
+
+    /// The call in other words: its lines in any order, and within them what may stand in any order, each word in any letters, with
+    /// anything between that parts words. And the line that the text must get, where it is no call.
+    fn in_other_words(&self, random: &mut Random) -> (String, Option<String>) {
+        let mut lines = vec![line_of_end(random, 0, &self.ends[0]), line_of_end(random, 1, &self.ends[1])];
+        lines.push(vec!["call".to_string(), any_letters(random, name(self.function))]);
+        if let Some(te) = self.te {
+            lines.push(vec!["Te".to_string(), te.to_string()]);
+        }
+        for (end, bits) in ENDS.iter().zip(&self.damaged) {
+            let mut bits: Vec<String> = bits.iter().map(usize::to_string).collect();
+            random.shuffle(&mut bits);
+            for bits in bits.chunks(4 + random.below(20)) {
+                lines.push([&["damaged".to_string(), any_letters(random, end)], bits].concat());
+            }
+        }
+        random.shuffle(&mut lines);
+        let mut text = String::new();
+        let (mut wrong, mut caller_known, mut call_known) = (None, false, false);
+        for line in lines {
+            while random.one_in(4) {
+                text += random.of(&["\n", " \t,\r\n", "# call data\n", "  #caller\n"]);
+            }
+            let number = 1 + text.matches('\n').count();
+            let at = match line[0].as_str() {
+                "call" => format!("line {number}, '{}'", line[1]),
+                _ => format!("line {number}, at its end"),
+            };
+            caller_known |= line[0] == "caller";
+            call_known |= line[0] == "call";
+            if wrong.is_none() {
+                let of_end = ENDS.iter().position(|end| *end == line[0]).and_then(|end| self.wrong_end(end));
+                let of_call = || (caller_known && call_known).then(|| self.wrong_call()).flatten();
+                wrong = of_end.or_else(of_call).map(|what| format!("{at}: {what}"));
+            }
+            text += random.of(&["", "", " ", "\t,"]);
+            text += &any_letters(random, &line[0]);
+            for word in &line[1..] {
+                text += random.of(&[" ", " ", "  ", "\t", ",", ", ", " ,,\r "]);
+                text += word;
+            }
+            text += random.of(&["\n", "\n", " \r\n", "# V.90\n", ", # \n"]);
+        }
+        (text, wrong)
+    }
+
+    /// What is wrong with an end, where the model says that its record is bad.
+    fn wrong_end(&self, end: usize) -> Option<&'static str> {
+        let own = &self.ends[end];
+        let home = own.functions[usize::from(own.home) - 1].available;
+        // Any function will do: that the record is bad comes first.
+        match Model::default().cm(own, own.home, 64) {
+            Err(Refusal(10)) if home => Some(PCM_ALONE),
+            Err(Refusal(10)) => Some(HOME_NOT_HAD),
+            _ => None,
         }
     }
+
+    /// What is wrong with the function of the call, where the model says that the caller has it not.
+    fn wrong_call(&self) -> Option<&'static str> {
+        (Model::default().cm(&self.ends[0], self.function, 64) == Err(Refusal(5))).then_some(CALL_NOT_HAD)
+    }
+
+    /// The line that the plain text gets where it is no call.
+    fn wrong(&self) -> Option<String> {
+        let end = |end: usize| self.wrong_end(end).map(|what| format!("line {}, at its end: {what}", end + 1));
+        let call = || self.wrong_call().map(|what| format!("line 3, '{}': {what}", name(self.function)));
+        end(0).or_else(|| end(1)).or_else(call)
+    }
+
+    /// CM, JM for it and the choice, as the model makes them of a call that nothing is wrong with.
+    fn made(&self) -> (Vec<u8>, Vec<u8>, Choice) {
+        let model = Model::default();
+        let cm = model.cm(&self.ends[0], self.function, 64).expect("the caller has the function");
+        let jm = model.jm(&self.ends[1], &cm, 64).expect("a good record answers every CM");
+        let choice = model.choice(&cm, &jm).expect("what we answer was offered");
+        (cm, jm, choice)
+    }
+}
+
+/// A word in upper case, in lower case or as it is.
+fn any_letters(random: &mut Random, word: &str) -> String {
+    match random.below(4) {
+        0 => word.to_uppercase(),
+        1 => word.to_lowercase(),
+        _ => word.to_string(),
+    }
+}
+
+/// The words of an end's line, in any order that says the same. The home function is left out where it is the first.
+fn line_of_end(random: &mut Random, end: usize, own: &Record) -> Vec<String> {
+    let mut said: Vec<Vec<&str>> = Vec::new();
+    for (place, function) in own.functions.iter().enumerate().filter(|(_, function)| function.available) {
+        let mut modes = modes(&function.items, function.pcm);
+        random.shuffle(&mut modes);
+        said.push([FUNCTIONS[place]].into_iter().chain(modes).collect());
+    }
+    said.extend(those([(own.lapm, "LAPM"), (own.access, "access")]).map(|wanted| vec!["wants", wanted]));
+    said.extend(those([(own.cellular, "cellular"), (own.digital, "digital")]).map(|quality| vec![quality]));
+    random.shuffle(&mut said);
+    let first = said.iter().map(|words| words[0]).find(|word| FUNCTIONS.contains(word));
+    if first != Some(name(own.home)) || random.one_in(2) {
+        said.insert(random.below(said.len() + 1), vec!["home", name(own.home)]);
+    }
+    let mut line = vec![ENDS[end].to_string()];
+    for word in said.concat() {
+        let word = match word {
+            "V.32bis" | "V.22bis" if random.one_in(3) => &word[..4],
+            _ => word,
+        };
+        line.push(any_letters(random, word));
+    }
+    line
+}
+
+/// What the program prints for a text.
+fn rehearsed(call: &str) -> String {
+    let program = Path::new(env!("CARGO_MANIFEST_DIR")).join("../target/bin/rehearse");
+    let mut child = Command::new(&program)
+        .stdin(Stdio::piped())
+        .stdout(Stdio::piped())
+        .spawn()
+        .unwrap_or_else(|error| panic!("{}: {error}; `rt check rehearse` makes it", program.display()));
+    child.stdin.take().expect("a pipe").write_all(call.as_bytes()).expect("the program reads the text");
+    let output = child.wait_with_output().expect("the program ends");
+    assert!(output.status.success(), "{}: {call}", output.status);
+    String::from_utf8(output.stdout).expect("the program prints text")
+}
+
+/// What happens to an end, with the text for it, which may take several rows.
+struct Event {
+    answerer: bool,
+    what: String,
+    text: Vec<String>,
+}
+
+/// The ladder of a call: what happens, and how it ends.
+struct Ladder {
+    events: Vec<Event>,
+    ending: String,
+}
+
+impl Ladder {
+    /// What the answerer first tells of this.
+    fn first(&self, what: &str) -> Option<String> {
+        let mut events = self.events.iter().filter(|event| event.answerer && event.what == what);
+        events.next().map(|event| event.text.join(" "))
+    }
+
+    /// What an end sends when it enters a state; it does so once.
+    fn sent(&self, what: &str) -> Option<String> {
+        let mut events = self.events.iter().filter(|event| event.what == what);
+        let sent = events.next().map(|event| event.text.join(" "));
+        assert!(events.next().is_none(), "{what} twice");
+        sent
+    }
+}
+
+/// The plan that the program prints for a call, and the ladder below it, which keeps to its columns. The plan, as a text, gets the same.
+fn plan_and_ladder<'a>(call: &str, printed: &'a str) -> (&'a str, Ladder) {
+    let (plan, below) = printed.split_once("\n\n").unwrap_or_else(|| panic!("no ladder: {call}{printed}"));
+    let plan = &printed[..plan.len() + 1];
+    assert_eq!(rehearsed(plan), printed, "the plan of {call}");
+    assert!(printed.ends_with('\n') && printed.is_ascii(), "{call}{printed}");
+    assert!(printed.lines().all(|line| line.trim_end() == line), "blanks at an end: {call}{printed}");
+    let mut rows: Vec<&str> = below.lines().collect();
+    let ending = rows.pop().expect("an ending").to_string();
+    assert!(is_known(&ending), "{ending}: {call}{printed}");
+    assert_eq!(rows.remove(0), HEADING, "{call}{printed}");
+    let mut events: Vec<Event> = Vec::new();
+    let mut before = 0;
+    for row in rows {
+        assert!(row.len() <= 100, "{row}: {call}");
+        let row = format!("{row:100}");
+        let (clock, caller, middle, answerer) = (&row[..5], row[7..18].trim(), &row[18..86], row[86..].trim());
+        // An arrow is no text.
+        let words = middle.split_whitespace().filter(|word| !word.trim_matches(['<', '>']).chars().all(|c| c == '-'));
+        let words = words.map(str::to_string);
+        if clock.trim().is_empty() {
+            assert!(caller.is_empty() && answerer.is_empty(), "{row}: {call}");
+            events.last_mut().expect("something goes on").text.extend(words);
+            continue;
+        }
+        let now: u32 = clock.trim().parse().unwrap_or_else(|_| panic!("no time: {row}: {call}"));
+        assert!(before <= now && now < 30_000, "{row}: {call}");
+        assert!(caller.is_empty() != answerer.is_empty(), "not one end: {row}: {call}");
+        before = now;
+        events.push(Event { answerer: caller.is_empty(), what: caller.to_string() + answerer, text: words.collect() });
+    }
+    let begin: Vec<_> = events.iter().take(2).map(|event| (event.answerer, event.what.as_str())).collect();
+    assert_eq!(begin, [(false, "still"), (true, "still")], "{call}{printed}");
+    (plan, Ladder { events, ending })
+}
+
+/// What is chosen, as the ladder says it.
+fn chosen(choice: Choice) -> Option<String> {
+    match choice {
+        Choice::None => None,
+        Choice::Item(item) => Some(format!("item {item} ({})", CHOSEN[usize::from(item) - 1])),
+        Choice::Pcm(pcm) => {
+            let named: Vec<&str> = options(pcm, &["answerer analogue", "answerer digital", "V.91"]).collect();
+            Some(format!("PCM ({})", named.join(", ")))
+        }
+    }
+}
+
+/// The last line for a choice that both ends make.
+fn ending(choice: Choice) -> String {
+    match chosen(choice) {
+        None => "both ends cleared, no mode is shared".to_string(),
+        Some(choice) => format!("both ends go on with {choice}"),
+    }
+}
+
+/// How a call may end.
+fn is_known(ending: &str) -> bool {
+    let choices = (1..=12).map(Choice::Item).chain((1..=7).map(Choice::Pcm));
+    let choices: Vec<String> = choices.filter_map(chosen).collect();
+    let known = |words: &str, goes_on: &str| {
+        let others = ["left", "gave up, late", "cleared, no mode is shared", "ended, the choice was not offered"];
+        others.contains(&words)
+            || words.strip_prefix(goes_on).is_some_and(|choice| choices.iter().any(|of| of == choice))
+    };
+    if let Some(both) = ending.strip_prefix("both ends ") {
+        return known(both, "go on with ");
+    }
+    match ending.strip_prefix("the ends differ: the caller ").and_then(|ends| ends.split_once("; the answerer ")) {
+        Some((caller, answerer)) => {
+            caller != answerer && known(caller, "goes on with ") && known(answerer, "goes on with ")
+        }
+        None => ending == "the call is not over after 30 seconds",
+    }
+}
+
+/// A menu in the words of the ladder: its name, what the model reads in it, its octets.
+fn shown(menu: &str, octets: &[u8]) -> String {
+    let Menu { function, items, pcm, lapm, access } = Model::default().read(octets).expect("a menu");
+    let modes = modes(&items, pcm.map_or(0, |pcm| pcm.options()));
+    let mut said = menu.to_string();
+    if (1..=6).contains(&function) {
+        said += &format!(" {}", name(function));
+    }
+    if !modes.is_empty() {
+        said += &format!(": {}", modes.join(" "));
+    }
+    said.extend(those([(lapm, ", LAPM"), (access.is_some(), ", access")]));
+    for option in options(access.map_or(0, |access| access.options()), &ACCESS) {
+        said += &format!(" {option}");
+    }
+    format!("{said} {}", text::show_octets(octets))
+}
+
+/// The octets at the end of a menu in words.
+fn octets_of(shown: &str) -> Vec<u8> {
+    let octet = |word: &&str| word.len() == 2 && u8::from_str_radix(word, 16).is_ok();
+    let mut octets: Vec<&str> = shown.rsplit(' ').take_while(octet).collect();
+    octets.reverse();
+    text::octets(&octets.join(" ")).expect("octets")
+}
+
+/// How often calls ended in these ways.
+#[derive(Default)]
+struct Counts(BTreeMap<&'static str, usize>);
+
+impl Counts {
+    fn add(&mut self, what: &'static str) {
+        *self.0.entry(what).or_default() += 1;
+    }
+
+    fn at_least(&self, least: usize, of: &[&str]) {
+        assert!(of.iter().all(|what| self.0.get(what).is_some_and(|count| *count >= least)), "{:?}", self.0);
+    }
+}
+
+/// Rehearses a call over a line without damage, in the words of a text, which must get a line or end as the model says.
+fn ends_as_the_model_says(call: &Call, said: &str, wrong: Option<String>, counts: &mut Counts) {
+    let printed = rehearsed(said);
+    if let Some(line) = wrong {
+        assert_eq!(printed, line + "\n", "{said}");
+        return counts.add("refused");
+    }
+    let (plan, ladder) = plan_and_ladder(said, &printed);
+    assert_eq!(plan, call.plain(), "{said}");
+    let (cm, jm, choice) = call.made();
+    counts.add(match choice {
+        Choice::None => "cleared",
+        Choice::Item(_) => "modes",
+        Choice::Pcm(_) => "pcm",
+    });
+    assert_eq!(ladder.sent("menu"), Some(shown("CM", &cm)), "{said}{printed}");
+    assert_eq!(ladder.sent("joint"), Some(shown("JM", &jm)), "{said}{printed}");
+    assert_eq!(ladder.ending, ending(choice), "{said}{printed}");
+}
+
+fn root() -> PathBuf {
+    Path::new(env!("CARGO_MANIFEST_DIR")).join("..")
+}
+
+/// The records of a vector file that can be said in words, each with the field behind it. A function that is not available is said as
+/// not there, whatever the record has for it.
+fn records(name: &str) -> Vec<(Record, String)> {
+    let vectors = fs::read_to_string(root().join("tests/vectors").join(name)).expect("the vectors can be read");
+    let mut said = Vec::new();
+    for row in vectors.lines().skip(1) {
+        let fields: Vec<&str> = row.split('\t').collect();
+        let mut own = numbers::record(&text::record(fields[0]).expect("a record")).expect("yes or no");
+        for function in own.functions.iter_mut().filter(|function| !function.available) {
+            *function = Function { available: false, items: Vec::new(), pcm: 0 };
+        }
+        let has_names =
+            |function: &Function| function.pcm < 8 && function.items.iter().all(|item| (1..=12).contains(item));
+        if own.functions.iter().all(has_names) && (1..=6).contains(&own.home) {
+            said.push((own, fields[1].to_string()));
+        }
+    }
+    said
 }
 
 #[test]
 fn a_rehearsed_call_ends_as_the_model_says() {
-    let (mut modes, mut pcm, mut cleared, mut refused) = (0, 0, 0, 0);
-    for (caller, answerer) in rows("cm.tsv").iter().zip(rows("jm.tsv")) {
-        // The function of a vector is often none that the caller has, so data is asked for too.
-        for function in [caller[1].as_str(), "6"] {
-            let call = format!("caller {}\nanswerer {}\nfunction {function}\n", caller[0], answerer[0]);
-            let printed = rehearsed(&call);
-            let lines: Vec<&str> = printed.lines().collect();
-            let asked = function.parse().expect("a function is a byte");
-            match said(&record(&caller[0]), &record(&answerer[0]), asked) {
-                Err(line) => {
-                    refused += 1;
-                    assert_eq!(lines, [line.as_str()], "{call}");
-                }
-                Ok((cm, jm, choice)) => {
-                    match choice {
-                        Choice::None => cleared += 1,
-                        Choice::Item(_) => modes += 1,
-                        Choice::Pcm(_) => pcm += 1,
-                    }
-                    assert_eq!(lines.last(), Some(&ending(choice).as_str()), "{call}{printed}");
-                    for sends in [
-                        format!("caller    menu, sends CM {}", text::show_octets(&cm)),
-                        format!("answerer  joint, sends JM {}", text::show_octets(&jm)),
-                    ] {
-                        assert!(lines.iter().any(|line| line.ends_with(&sends)), "{sends}: {call}{printed}");
-                    }
-                }
-            }
+    let mut counts = Counts::default();
+    for ((caller, function), (answerer, _)) in records("cm.tsv").into_iter().zip(records("jm.tsv")) {
+        // The function of a vector is often none that the caller has, or none at all, so data is asked for too.
+        let asked: u8 = function.parse().expect("a function is a byte");
+        let ends = [caller, answerer];
+        for function in BTreeSet::from([asked, 6]).into_iter().filter(|function| (1..=6).contains(function)) {
+            let call = Call { ends: ends.clone(), function, te: None, damaged: Default::default() };
+            ends_as_the_model_says(&call, &call.plain(), call.wrong(), &mut counts);
         }
     }
-    let counts = [modes, pcm, cleared, refused];
-    assert!(counts.iter().all(|count| *count >= 20), "modes, PCM, cleared, refused: {counts:?}");
+    counts.at_least(20, &["modes", "pcm", "cleared", "refused"]);
+}
+
+#[test]
+fn a_call_in_any_words_ends_as_the_model_says() {
+    let mut random = Random(1);
+    let mut counts = Counts::default();
+    for _ in 0..600 {
+        let ends = [random.record(), random.record()];
+        let function = random.function(&ends[0]);
+        // Behind a later Te the answerer does not wait for two copies of the longest CM.
+        let te = random.one_in(2).then(|| 500 + random.below(2900));
+        let call = Call { ends, function, te, damaged: Default::default() };
+        let (said, wrong) = call.in_other_words(&mut random);
+        ends_as_the_model_says(&call, &said, wrong, &mut counts);
+    }
+    counts.at_least(20, &["modes", "pcm", "cleared", "refused"]);
+}
+
+#[test]
+fn a_menu_that_damage_makes_is_answered_as_the_model_says() {
+    let model = Model::default();
+    let mut answered: Vec<(Record, Vec<u8>)> = Vec::new();
+    for (own, heard) in records("jm.tsv") {
+        // With every name, in as many octets as a message may have.
+        let longest = [&[0xC1, 0xE5, 0xD7, 0xD7, 0xE7, 0x2A, 0xED][..], &[0xD7; 57]].concat();
+        answered.extend([text::octets(&heard).expect("octets"), longest].map(|heard| (own.clone(), heard)));
+    }
+    let mut counts = Counts::default();
+    for (own, heard) in answered {
+        let (Ok(bits), Ok(jm)) = (model.write(Kind::Menu, &heard, 2, 2000), model.jm(&own, &heard, 64)) else {
+            continue;
+        };
+        // The caller is quiet for long, so that its line has 1s alone, and the answerer waits from 200 ms on.
+        let zeros = bits.iter().enumerate().filter(|(_, bit)| **bit == 0).map(|(place, _)| 60 + place).collect();
+        let call = Call {
+            ends: [own.clone(), own.clone()],
+            function: own.home,
+            te: Some(5000),
+            damaged: [zeros, BTreeSet::new()],
+        };
+        let said = call.plain();
+        let printed = rehearsed(&said);
+        let (plan, ladder) = plan_and_ladder(&said, &printed);
+        let choice = model.choice(&heard, &jm).expect("what we answer was offered");
+        assert_eq!(plan, said);
+        assert_eq!(ladder.first("hears"), Some(shown("CM", &heard)), "{said}{printed}");
+        assert_eq!(
+            ladder.first("agreed"),
+            Some(chosen(choice).unwrap_or("no shared mode".to_string())),
+            "{said}{printed}"
+        );
+        assert_eq!(ladder.sent("joint"), Some(shown("JM", &jm)), "{said}{printed}");
+        counts.add(if heard.len() == 64 { "longest" } else { "others" });
+    }
+    counts.at_least(20, &["longest", "others"]);
+}
+
+#[test]
+fn a_call_over_a_damaged_line_ends_in_a_known_way() {
+    let mut random = Random(2);
+    let mut counts = Counts::default();
+    for _ in 0..800 {
+        let ends = [random.record(), random.record()];
+        let function = random.function(&ends[0]);
+        let latest = if random.one_in(8) { 5000 } else { 2000 };
+        let te = random.one_in(2).then(|| 500 + random.below(latest - 499));
+        let mut call = Call { ends, function, te, damaged: Default::default() };
+        if call.wrong().is_some() {
+            continue;
+        }
+        let (cm, jm, _) = call.made();
+        // Where CM begins; JM does so two copies of it later.
+        let begins = 300 + call.te.unwrap_or(500) * 3 / 10;
+        let copies = [&cm, &jm].map(|menu| 20 + 10 * menu.len());
+        for (end, from) in [begins, begins + 2 * copies[0]].into_iter().enumerate() {
+            for _ in 0..random.below(4) {
+                let bit = (from + random.below(4 * copies[end])).min(8999);
+                call.damaged[end].insert(bit);
+                // In the next copy as well, so that another menu is agreed.
+                if random.one_in(2) {
+                    call.damaged[end].insert((bit + copies[end]).min(8999));
+                }
+            }
+            if random.one_in(20) {
+                call.damaged[end].extend((0..random.below(1500)).map(|_| random.below(9000)));
+            }
+        }
+        let (said, _) = call.in_other_words(&mut random);
+        let printed = rehearsed(&said);
+        let (plan, ladder) = plan_and_ladder(&said, &printed);
+        assert_eq!(plan, call.plain(), "{said}");
+        if let Some(sent) = ladder.sent("menu") {
+            assert_eq!(sent, shown("CM", &cm), "{said}{printed}");
+        }
+        let answered = ladder.sent("joint").map(|sent| octets_of(&sent));
+        if let Some(answered) = &answered {
+            assert_eq!(ladder.sent("joint"), Some(shown("JM", answered)), "{said}{printed}");
+        }
+        counts.add(match ladder.ending.as_str() {
+            differ if differ.starts_with("the ends differ") => "differ",
+            both if both.starts_with("both ends go on with") => {
+                let choice = Model::default().choice(&cm, &answered.expect("JM was sent"));
+                assert_eq!(both, ending(choice.expect("JM answers CM")), "{said}{printed}");
+                "go on"
+            }
+            _ => "other",
+        });
+    }
+    counts.at_least(20, &["go on", "differ", "other"]);
 }
