@@ -20,3 +20,4 @@ pub mod KeptWords
 pub mod Kept
 pub mod Marks
 pub mod Again
+pub mod Worked

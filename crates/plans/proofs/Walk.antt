@@ -13,7 +13,6 @@ use lib.ListN.{length, getD, set, drop, take, length-drop, length-set, drop-of-l
 use lib.Seq.{drop-cons, take-all}
 use Rattle.laws.specs.Logic.{when}
 use Rattle.laws.proofs.Logic.{either-way}
-use Rattle.plans.specs.declared.Answer.{Answer}
 use Rattle.plans.specs.declared.Reading.{Reading}
 use Rattle.plans.specs.Text.{endsWord, wordLength, word, withDigit, numberOn, number, lineFeed, lineFeeds, wordAt}
 use Rattle.plans.specs.Reading.{readWord, finishLine, scanAfter, beginsWord, readByte, noPlan, answer, finished, readFrom, bitPlace, isBit, markedBit, markedFrom}

@@ -34,21 +34,6 @@ typed-joined p (x ∷ a) b = typed-joined (struck p x) a b
 pub typed-then : (p : Page) (a b : List ℕ) {q s : Page} → q ≡ typed p a → s ≡ typed q b → s ≡ typed p (a ++ b)
 typed-then p a b first second = second ∙ ap (λ (x : Page). typed x b) first ∙ sym (typed-joined p a b)
 
--- typing leaves a buffer as long as it was
-struck-long : (p : Page) (b : ℕ) → length (struck p b .buffer) ≡ length (p .buffer)
-struck-long p b =
-    either-way (λ (q : Page). length (q .buffer) ≡ length (p .buffer)) (ltb (p .at) (length (p .buffer))) (page (set (p .buffer) (p .at) b) (p .at + 1)) p
-    (λ has-room. length-set (p .buffer) (p .at) b)
-    (λ full. refl)
-
-typed-long : (p : Page) (text : List ℕ) → length (typed p text .buffer) ≡ length (p .buffer)
-unfolding typed
-typed-long p [] = refl
-typed-long p (b ∷ text) = typed-long (struck p b) text ∙ struck-long p b
-
-pub text-long : (p q : Page) (text : List ℕ) → q ≡ typed p text → length (q .buffer) ≡ length (p .buffer)
-text-long p q text is-typed = ap (λ (x : Page). length (x .buffer)) is-typed ∙ typed-long p text
-
 -- the place is within the buffer, or right behind it
 abbrev Within : Page → Type 0
 Within p = p .at ≤ length (p .buffer)

@@ -1,7 +1,7 @@
 -- `names::put_name` meets its contract: both tests are those of the definition, and the name is that of the row.
 -- Assumes nothing.
 use borrow.Author.Needs.{needs}
-use mathlib.Core.Path.{refl, sym, ap, ap₂, _∙_}
+use mathlib.Core.Path.{refl, sym, ap₂, _∙_}
 use denote.Ref.{now}
 use Rattle.laws.specs.Joined.{joined}
 use Rattle.printing.specs.Page.{page, typed}

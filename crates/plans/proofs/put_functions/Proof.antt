@@ -1,7 +1,7 @@
 -- `plans::put_functions` meets its contract. Invariant: the functions from here on, typed from here, leave what all of them do.
 -- Assumes nothing.
 use borrow.Author.Needs.{needs}
-use Prim.Native.Nat.{ℕ, _+_, _-_, _≤_}
+use Prim.Native.Nat.{ℕ, _+_, _-_}
 use mathlib.Core.Path.{_≡_, refl, sym, ap, _∙_}
 use lib.ListN.{length}
 use Rattle.printing.specs.Page.{Page, page, typed}

@@ -1,7 +1,6 @@
 -- `plans::te_word` meets its contract: Te is in range where a start takes it, and so it fits.
 -- Assumes nothing.
 use borrow.Author.Needs.{needs}
-use native.Mathlib.Omega.{arith}
 use mathlib.Core.Path.{sym, _∙_}
 use mir.Facts.{fits-below}
 use Rattle.laws.specs.Logic.{when}

@@ -1,0 +1,74 @@
+-- Worked texts, computed: each name stands for document 01's number. A mode stands in the functions that its number has in binary, so no two
+-- stand in the same ones.
+-- Assumes nothing.
+use Prim.Native.Nat.{ℕ}
+use mathlib.Core.Path.{_≡_, refl}
+use mathlib.Core.List.{List, [], _∷_}
+use lib.ListN.{replicate}
+use Rattle.laws.specs.Logic.{when, both, either}
+use Rattle.laws.specs.Tests.{sameList}
+use Rattle.items.specs.Items.{inSet}
+use Rattle.names.specs.Bytes.{bytes}
+use Rattle.names.specs.Names.{names, namedBy}
+use Rattle.records.specs.declared.Modes.{Modes}
+use Rattle.records.specs.declared.Record.{Record}
+use Rattle.records.specs.Record.{noModes, modesAt, anyBad, badRecord}
+use Rattle.plans.specs.Text.{wordLength, numberOn}
+use Rattle.plans.specs.Reading.{say, nameFunction, nameHome, nameMode, endWord, isSaid, firstWord, lacksCall, planning, functionWord, nameWord, readWord, recordOf, recordMistake, withHome, finishEnd, finishLine, scanAfter, readByte, noPlan, answer, missing, finished, readFrom, readText, markedFrom, marked}
+
+abbrev having : ℕ → ℕ → Modes
+having items pcm = record { available = 1; pcm = pcm; items = items }
+
+-- document 01's record A and the first answerer to it
+abbrev firstCall : List ℕ
+firstCall = bytes "caller    data V.34 V.32bis V.22bis V.21, wants LAPM\nanswerer  data V.32bis V.22bis V.26ter\ncall      data\n"
+
+abbrev dataAlone : ℕ → ℕ → Record
+dataAlone items lapm = record {
+  functions = noModes ∷ noModes ∷ noModes ∷ noModes ∷ noModes ∷ having items 0 ∷ [];
+  home = 6;
+  lapm = lapm;
+  access = 0;
+  cellular = 0;
+  digital = 0;
+}
+
+abbrev everyName : List ℕ
+everyName =
+    bytes "caller H.324 V.34 V.32bis V.17 V.27ter V.26bis V.23-half-duplex PCM-analogue V.91 textphone V.34 V.34-half-duplex V.32bis V.29-half-duplex V.27ter V.23 V.23-half-duplex PCM-digital V.91 videotex V.34 V.22bis V.17 V.29-half-duplex V.27ter V.21 PCM-analogue PCM-digital V.91 fax-sent V.34 V.26ter V.26bis V.23 V.23-half-duplex V.21 PCM-analogue PCM-digital V.91 fax-received V.34 data V.32 V.22 home fax-received wants access cellular\nanswerer data cellular digital\ncall fax-sent\nTe 1000\ndamaged caller 0 2"
+
+pub first-call-is-read :
+    (recordOf (readText firstCall .plan) 1 ≡ dataAlone 0x101A 1) × (recordOf (readText firstCall .plan) 2 ≡ dataAlone 0x0118 0)
+    × (readText firstCall .plan .function ≡ 6) × (readText firstCall .plan .te ≡ 500)
+unfolding bytes names namedBy sameList when both either inSet modesAt anyBad badRecord wordLength numberOn say nameFunction nameHome nameMode endWord isSaid firstWord lacksCall planning functionWord nameWord readWord recordOf recordMistake withHome finishEnd finishLine scanAfter readByte missing finished readFrom markedFrom marked
+first-call-is-read = (refl, refl, refl, refl)
+
+abbrev severalFunctions : Record
+severalFunctions = record {
+  functions = having 0x0AAA 5 ∷ having 0x0CCE 6 ∷ having 0x10F2 7 ∷ having 0x1F02 7 ∷ having 0x0002 0 ∷ having 0x0018 0 ∷ [];
+  home = 5;
+  lapm = 0;
+  access = 1;
+  cellular = 1;
+  digital = 0;
+}
+
+abbrev noModesForData : Record
+noModesForData = record {
+  functions = noModes ∷ noModes ∷ noModes ∷ noModes ∷ noModes ∷ having 0 0 ∷ [];
+  home = 6;
+  lapm = 0;
+  access = 0;
+  cellular = 1;
+  digital = 1;
+}
+
+pub every-name-is-read :
+    (recordOf (readText everyName .plan) 1 ≡ severalFunctions) × (recordOf (readText everyName .plan) 2 ≡ noModesForData)
+    × (readText everyName .plan .function ≡ 4) × (readText everyName .plan .te ≡ 1000) × (marked everyName (replicate 4 0) ≡ 1 ∷ 0 ∷ 1 ∷ 0 ∷ [])
+unfolding bytes names namedBy sameList when both either inSet modesAt anyBad badRecord wordLength numberOn say nameFunction nameHome nameMode endWord isSaid firstWord lacksCall planning functionWord nameWord readWord recordOf recordMistake withHome finishEnd finishLine scanAfter readByte missing finished readFrom markedFrom marked
+every-name-is-read = (refl, refl, refl, refl, refl)
+
+pub mistake-has-its-place : readText (bytes "caller data V.35") ≡ answer noPlan 2 12
+unfolding bytes names namedBy sameList when both either inSet modesAt anyBad badRecord wordLength numberOn say nameFunction nameHome nameMode endWord isSaid firstWord lacksCall planning functionWord nameWord readWord recordOf recordMistake withHome finishEnd finishLine scanAfter readByte missing finished readFrom markedFrom marked
+mistake-has-its-place = refl
