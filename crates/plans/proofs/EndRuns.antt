@@ -93,7 +93,7 @@ module _ (end first : ℕ) (d : List ℕ) where
     abbrev now : ℕ → Reading
     now numbers = saying 0 (with numbers) inEnd
 
-    said-read : (context n numbers : ℕ) → inSet numbers n ≡ false → say (saying 0 (with numbers) context) 0 n 0 ≡ now (added numbers n)
+    said-read : (context n numbers : ℕ) → inSet numbers n ≡ false → say (saying 0 (with numbers) context) 0 n 0 (saying 0 (with numbers) context .first) ≡ now (added numbers n)
     unfolding say when
     said-read context n numbers not-in = simp (set-here sets sixteen end 0 numbers, not-in, set-set)
 

@@ -20,7 +20,7 @@ use Rattle.plans.specs.Reading.{beginning, inEnd, bits, done, noFunction
 use Rattle.plans.specs.Good.{GoodEnd, Good, PlansAreGood}
 use Rattle.plans.proofs.Marking.{zeros-at}
 use Rattle.plans.proofs.KeptSets.{Fits, Sound, sound-at, fits-home, fits-none}
-use Rattle.plans.proofs.KeptLine.{Parts, Outside, within, Kept, Later, no-names, kept-alone}
+use Rattle.plans.proofs.KeptLine.{Parts, Outside, within, Kept, Later, call-had, no-names, kept-alone}
 use Rattle.plans.proofs.KeptWords.{at-context, kept-going, kept-word}
 
 -- what is kept at the end of a line
@@ -39,13 +39,11 @@ no-bad own right = go (eqb (own .home) 0) (eqb (inUse own (own .home) .available
 
 module _ (r : Reading) (kept : Kept r) where
   -- an end's line that names its home function
-  kept-planning : within (r .context) ≡ true → recordMistake (recordOf (r .plan) (r .end)) ≡ 0 → Ended (planning r (r .plan) beginning)
+  kept-planning : within (r .context) ≡ true → recordMistake (recordOf (r .plan) (r .end)) ≡ 0 → Ended (planning r (r .plan .function) (r .plan .te) beginning)
   unfolding planning both
-  kept-planning is-inside right =
-      either-way Ended (lacksCall (r .plan)) _ _ (λ _ wrong. absurd (omega (arith, wrong)))
-      (λ has-call _.
-      let out : Outside (r .plan) = record { each = λ e low high some. go e low high some (eqb e (r .end)) refl; has-call = has-call } in
-      (record { parts = kept .parts; names = kept .names; inside = λ e. clash (sym e); outside = λ _. out }, out))
+  kept-planning is-inside right made =
+      let out : Outside (r .plan) = record { each = λ e low high some. go e low high some (eqb e (r .end)) refl; has-call = call-had (lacksCall (r .plan)) (r .what) made } in
+      (record { parts = kept .parts; names = kept .names; inside = λ e. clash (sym e); outside = λ _. out }, out)
     where
       go : (e : ℕ) → 1 ≤ e → e ≤ 2 → 0 < setAt (r .plan) e home → (t : Bool) → eqb e (r .end) ≡ t → badRecord (recordOf (r .plan) e) ≡ false
       go e low high some true same = rw (eqb-true e (r .end) same) (no-bad (recordOf (r .plan) (r .end)) right)
@@ -54,7 +52,7 @@ module _ (r : Reading) (kept : Kept r) where
   kept-home : within (r .context) ≡ true → Kept (withHome r) × (within (withHome r .context) ≡ true)
   unfolding withHome both
   kept-home is-inside =
-      either-way (λ (now : Reading). Kept now × (within (now .context) ≡ true)) (ltb 0 (setAt (r .plan) (r .end) home)) r (store r home (r .first) 0) (λ _. (kept, is-inside))
+      either-way (λ (now : Reading). Kept now × (within (now .context) ≡ true)) (ltb 0 (setAt (r .plan) (r .end) home)) r (store r home (r .first) 0 (r .first)) (λ _. (kept, is-inside))
       (λ _. (kept-alone r kept is-inside home (r .first) (lit< tt) (fits-home (r .first) (kept .names .first-one)), refl))
 
 -- the end of a line

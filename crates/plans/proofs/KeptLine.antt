@@ -3,20 +3,20 @@
 use Prim.Native.Nat.{ℕ, _<_, _≤_, _%_}
 use native.Mathlib.Nat.{not-suc-le-zero}
 use native.Mathlib.Omega.{arith}
-use mathlib.Core.Path.{_≡_, ap, _∙_}
+use mathlib.Core.Path.{_≡_, refl, ap, _∙_}
 use mathlib.Core.Bool.{Bool, true, false}
 use borrow.Author.Tests.{eqb-false}
 use lib.Dec.{ltb, eqb, lit<}
 use lib.ListN.{set}
 use lib.Seq.{getD-set-other}
-use Rattle.laws.specs.Logic.{both, either}
+use Rattle.laws.specs.Logic.{when, both, either}
 use Rattle.laws.proofs.Logic.{either-way, clash}
 use Rattle.items.specs.Items.{inSet}
 use Rattle.records.specs.Record.{badRecord}
 use Rattle.steps.specs.Session.{isTe}
 use Rattle.plans.specs.declared.Plan.{Plan}
 use Rattle.plans.specs.declared.Reading.{Reading}
-use Rattle.plans.specs.Reading.{modeFirst, twice, planned, mistaken, beginLine, place, home, setAt, store, added, say, firstOf, nameFunction, nameHome, nameMode, lacksCall, recordOf}
+use Rattle.plans.specs.Reading.{modeFirst, callNotHad, twice, planned, mistaken, beginLine, place, home, setAt, store, added, say, firstOf, nameFunction, nameHome, nameMode, lacksCall, recordOf}
 use Rattle.plans.proofs.Places.{set-here, ends-apart}
 use Rattle.plans.proofs.KeptSets.{Fits, Sound, sound-at, sound-set, fits-home, fits-wanted, fits-more, named-odd, added-odd}
 
@@ -64,6 +64,12 @@ Kept r = Holds (r .plan) (r .end) (r .function) (r .first) (r .context)
 abbrev pub Later : Reading → Type 0
 Later r = r .what ≡ 0 → Kept r
 
+-- a call that is no mistake is one that the caller has
+pub call-had : (lacks : Bool) (what : ℕ) → when lacks callNotHad what ≡ 0 → lacks ≡ false
+unfolding when
+call-had true what right = absurd (omega (arith, right))
+call-had false what right = refl
+
 -- the record of an end is that of its sets
 same-record : (plan plan′ : Plan) (e : ℕ) → ((i : ℕ) → setAt plan′ e i ≡ setAt plan e i) → recordOf plan′ e ≡ recordOf plan e
 unfolding recordOf
@@ -92,9 +98,9 @@ module _ (r : Reading) (kept : Kept r) where
         λ i. getD-set-other (r .plan .sets) (place (r .end) k) (place e i) numbers 0 (ends-apart (r .end) e k i (now .low) (now .high) low high apart) in
         ap badRecord (same-record (r .plan) after e same) ∙ now .other e low high apart (rw (same home) at some)
 
-    kept-store : (last : ℕ) → Named after (r .end) last (r .first) → Kept (store r k numbers last)
+    kept-store : (last first : ℕ) → Named after (r .end) last first → Kept (store r k numbers last first)
     unfolding both
-    kept-store last names = record {
+    kept-store last first names = record {
       parts = record { sets = sound-set (r .plan .sets) (kept .parts .sets) (r .end) k h numbers fits; function = kept .parts .function; te = kept .parts .te };
       names = names;
       inside = λ _. record { low = kept .inside is-inside .low; high = kept .inside is-inside .high; other = other-done };
@@ -102,44 +108,42 @@ module _ (r : Reading) (kept : Kept r) where
     }
 
     -- no function is named, or the one of the set
-    pub kept-alone : Kept (store r k numbers 0)
-    kept-alone = kept-store 0 (record { first-one = kept .names .first-one; last-one = omega arith; odd = λ l. absurd (not-suc-le-zero l) })
+    pub kept-alone : Kept (store r k numbers 0 (r .first))
+    kept-alone = kept-store 0 (r .first) (record { first-one = kept .names .first-one; last-one = omega arith; odd = λ l. absurd (not-suc-le-zero l) })
 
-    kept-last : k ≤ 6 → numbers % 2 ≡ 1 → Kept (store r k numbers k)
-    kept-last six odd =
-        kept-store k (record { first-one = kept .names .first-one; last-one = six; odd = λ _. ap (λ (n : ℕ). n % 2) (set-here (r .plan .sets) (kept .parts .sets .0) (r .end) k numbers) ∙ odd })
+    kept-last : (first : ℕ) → first ≤ 6 → k ≤ 6 → numbers % 2 ≡ 1 → Kept (store r k numbers k first)
+    kept-last first is-first six odd =
+        kept-store k first (record { first-one = is-first; last-one = six; odd = λ _. ap (λ (n : ℕ). n % 2) (set-here (r .plan .sets) (kept .parts .sets .0) (r .end) k numbers) ∙ odd })
 
   -- something is said of the end, or of a function
-  pub kept-wanted : within (r .context) ≡ true → (n : ℕ) → n ≤ 3 → Later (say r 0 n 0)
+  pub kept-wanted : within (r .context) ≡ true → (n : ℕ) → n ≤ 3 → Later (say r 0 n 0 (r .first))
   unfolding say
   kept-wanted is-inside n is-one =
-      either-way Later (inSet (old 0) n) (mistaken r twice) (store r 0 (added (old 0) n) 0) (λ _ _. kept)
+      either-way Later (inSet (old 0) n) (mistaken r twice) (store r 0 (added (old 0) n) 0 (r .first)) (λ _ _. kept)
       (λ is-new _. kept-alone is-inside 0 (added (old 0) n) (lit< tt) (fits-wanted (old 0) n (sound-at (r .plan .sets) (kept .parts .sets) (r .end) 0 (lit< tt)) is-one is-new))
 
-  kept-modes : within (r .context) ≡ true → (f n : ℕ) → 1 ≤ f → f ≤ 6 → (inSet (old f) n ≡ false → added (old f) n % 2 ≡ 1) → Later (say r f n f)
+  kept-modes : within (r .context) ≡ true → (f n first : ℕ) → first ≤ 6 → 1 ≤ f → f ≤ 6 → (inSet (old f) n ≡ false → added (old f) n % 2 ≡ 1) → Later (say r f n f first)
   unfolding say
-  kept-modes is-inside f n some six odd =
+  kept-modes is-inside f n first is-first some six odd =
       let h : f < 8 = omega (arith, six) in
-      either-way Later (inSet (old f) n) (mistaken r twice) (store r f (added (old f) n) f) (λ _ _. kept)
-      (λ is-new _. kept-last is-inside f (added (old f) n) h (fits-more f (old f) n some six (sound-at (r .plan .sets) (kept .parts .sets) (r .end) f h) (odd is-new)) six (odd is-new))
+      either-way Later (inSet (old f) n) (mistaken r twice) (store r f (added (old f) n) f first) (λ _ _. kept)
+      (λ is-new _. kept-last is-inside f (added (old f) n) h (fits-more f (old f) n some six (sound-at (r .plan .sets) (kept .parts .sets) (r .end) f h) (odd is-new)) first is-first six (odd is-new))
 
   pub kept-mode : within (r .context) ≡ true → (n : ℕ) → Later (nameMode r n)
   unfolding nameMode
   kept-mode is-inside n =
       let f = r .function in
-      either-way Later (eqb f 0) (mistaken r modeFirst) (say r f n f) (λ _ _. kept)
+      either-way Later (eqb f 0) (mistaken r modeFirst) (say r f n f (r .first)) (λ _ _. kept)
       (λ is-one.
       let some : 1 ≤ f = omega (arith, eqb-false f 0 is-one) in
-      kept-modes is-inside f n some (kept .names .last-one) (λ is-new. added-odd (old f) n (kept .names .odd some) is-new))
+      kept-modes is-inside f n (r .first) (kept .names .first-one) some (kept .names .last-one) (λ is-new. added-odd (old f) n (kept .names .odd some) is-new))
 
   pub kept-home : within (r .context) ≡ true → (f : ℕ) → f ≤ 6 → Later (nameHome r f)
   unfolding nameHome
-  kept-home is-inside f six = either-way Later (ltb 0 (old home)) (mistaken r twice) (store r home f 0) (λ _ _. kept) (λ _ _. kept-alone is-inside home f (lit< tt) (fits-home f six))
+  kept-home is-inside f six = either-way Later (ltb 0 (old home)) (mistaken r twice) (store r home f 0 (r .first)) (λ _ _. kept) (λ _ _. kept-alone is-inside home f (lit< tt) (fits-home f six))
 
 -- a function is named, and is the first if none was before
 pub kept-function : (r : Reading) → Kept r → within (r .context) ≡ true → (f : ℕ) → 1 ≤ f → f ≤ 6 → Later (nameFunction r f)
 unfolding nameFunction
 kept-function r kept is-inside f some six =
-    let names : Named (r .plan) (r .end) (r .function) (firstOf (r .first) f) =
-    record { first-one = either-way (λ (n : ℕ). n ≤ 6) (eqb (r .first) 0) f (r .first) (λ _. six) (λ _. kept .names .first-one); last-one = kept .names .last-one; odd = kept .names .odd } in
-    kept-modes _ (record { parts = kept .parts; names = names; inside = kept .inside; outside = kept .outside }) is-inside f 0 some six (λ is-new. named-odd (setAt (r .plan) (r .end) f) is-new)
+    kept-modes r kept is-inside f 0 (firstOf (r .first) f) (either-way (λ (n : ℕ). n ≤ 6) (eqb (r .first) 0) f (r .first) (λ _. six) (λ _. kept .names .first-one)) some six (λ is-new. named-odd (setAt (r .plan) (r .end) f) is-new)

@@ -16,7 +16,7 @@ use Rattle.plans.specs.declared.Reading.{Reading}
 use Rattle.plans.specs.Text.{number}
 use Rattle.plans.specs.Reading.{beginning, inEnd, afterHome, afterWants, afterCall, afterTe, afterDamaged, firstBit, bits, done, twice, planned, mistaken, going, beginLine, say, endWord, isSaid, beginNamed, firstWord, lacksCall, planning, functionWord, nameWord, teWord, atBits, readWord, recordOf}
 use Rattle.plans.proofs.Meant.{Meant, meant}
-use Rattle.plans.proofs.KeptLine.{Outside, within, Kept, Later, new-line, kept-wanted, kept-mode, kept-home, kept-function}
+use Rattle.plans.proofs.KeptLine.{Outside, within, Kept, Later, call-had, new-line, kept-wanted, kept-mode, kept-home, kept-function}
 
 -- a part of an end's line goes on with the line, and another line is none of an end
 is-within : (n : ℕ) → 2 ≤ n → n ≤ 4 → within n ≡ true
@@ -62,16 +62,14 @@ module _ (r : Reading) (kept : Kept r) where
       (λ _. slip beginning))
 
   -- the call, or Te
-  kept-planned : (f te : ℕ) → Outside (r .plan) → f ≤ 6 → either (eqb te 0) (isTe te) ≡ true → Later (planning r (planned (r .plan .sets) f te) done)
+  kept-planned : (f te : ℕ) → Outside (r .plan) → f ≤ 6 → either (eqb te 0) (isTe te) ≡ true → Later (planning r f te done)
   unfolding planning recordOf both
-  kept-planned f te out six is-te =
-      either-way Later (lacksCall (planned (r .plan .sets) f te)) _ _ (λ _ wrong. absurd (omega (arith, wrong)))
-      (λ has-call _. record {
-        parts = record { sets = kept .parts .sets; function = six; te = is-te };
-        names = record { first-one = kept .names .first-one; last-one = kept .names .last-one; odd = kept .names .odd };
-        inside = λ e. clash (sym e);
-        outside = λ _. record { each = out .each; has-call = has-call };
-      })
+  kept-planned f te out six is-te right = record {
+    parts = record { sets = kept .parts .sets; function = six; te = is-te };
+    names = record { first-one = kept .names .first-one; last-one = kept .names .last-one; odd = kept .names .odd };
+    inside = λ e. clash (sym e);
+    outside = λ _. record { each = out .each; has-call = call-had (lacksCall (planned (r .plan .sets) f te)) (r .what) right };
+  }
 
   -- a function where one is asked for
   kept-asked : (f : ℕ) → f ≤ 6 → Later (functionWord r f)
@@ -82,9 +80,9 @@ module _ (r : Reading) (kept : Kept r) where
       (λ _. slip (r .context)))
 
   -- what is wanted, or an end, where it is asked for
-  kept-wants : (n : ℕ) → n ≤ 3 → Later (when (eqb (r .context) afterWants) (say r 0 n 0) (mistaken r (r .context)))
+  kept-wants : (n : ℕ) → n ≤ 3 → Later (when (eqb (r .context) afterWants) (say r 0 n 0 (r .first)) (mistaken r (r .context)))
   unfolding both
-  kept-wants n is-one = either-way Later (eqb (r .context) afterWants) (say r 0 n 0) (mistaken r (r .context)) (λ t. kept-wanted r kept (at-context afterWants t) n is-one) (λ _. slip (r .context))
+  kept-wants n is-one = either-way Later (eqb (r .context) afterWants) (say r 0 n 0 (r .first)) (mistaken r (r .context)) (λ t. kept-wanted r kept (at-context afterWants t) n is-one) (λ _. slip (r .context))
 
   kept-damaged : (n : ℕ) → Later (when (eqb (r .context) afterDamaged) (beginLine r n firstBit) (mistaken r (r .context)))
   unfolding both

@@ -5,6 +5,7 @@ pub mod Runs
 pub mod Decimals
 pub mod Marking
 pub mod Words
+pub mod Cases
 pub mod NameRuns
 pub mod Places
 pub mod FunctionRuns
@@ -21,3 +22,4 @@ pub mod Kept
 pub mod Marks
 pub mod Again
 pub mod Worked
+pub mod Pieces

@@ -10,7 +10,7 @@ use Rattle.laws.specs.Tests.{allBelow}
 use Rattle.laws.proofs.Logic.{either-way, both-true}
 use Rattle.laws.proofs.Computed.{below}
 use Rattle.steps.specs.Session.{isTe}
-use borrow.Author.Tests.{leb-true, ltb-true, ltb-false}
+use borrow.Author.Tests.{lt-ltb, leb-true, ltb-true, ltb-false}
 use Rattle.io.specs.Digits.{digits, Fewest}
 use Rattle.printing.specs.Page.{Page, typed, TypedDecimal}
 use Rattle.printing.proofs.Pages.{typed-decimal-unique}
@@ -42,3 +42,7 @@ decimal-typed p after n small number =
       fewest = fewest n small;
       text = refl;
     })
+
+-- a number that is not 0 is some
+pub some : (n : ℕ) → (n ≡ 0 → ⊥) → ltb 0 n ≡ true
+some n not-0 = lt-ltb 0 n (omega (arith, not-0))

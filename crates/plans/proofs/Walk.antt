@@ -4,24 +4,101 @@ use Prim.Native.Nat.{ℕ, zero, suc, _<_, _≤_, _+_, _-_, zero-le}
 use native.Mathlib.Nat.{le-refl, not-suc-le-zero, le-of-suc-le-suc}
 use native.Mathlib.Numerals.{add-one}
 use native.Mathlib.Omega.{arith}
-use mathlib.Core.Path.{_≡_, refl, sym, ap, subst, _∙_}
+use mathlib.Core.Path.{_≡_, refl, sym, ap, _∙_}
 use mathlib.Core.Bool.{Bool, true, false}
 use mathlib.Core.List.{List, [], _∷_}
+use mathlib.Core.Logic.{_⊎_, inl, inr}
 use borrow.Author.Tests.{eq-eqb, ne-eqb}
-use lib.Dec.{eqb}
-use lib.ListN.{length, getD, set, drop, take, length-drop, length-set, drop-of-length-le}
-use lib.Seq.{drop-cons, take-all}
-use Rattle.laws.specs.Logic.{when}
+use lib.Dec.{ltb, eqb}
+use lib.ListN.{length, getD, set, drop, take, length-set, drop-of-length-le}
+use lib.Seq.{drop-cons}
+use Rattle.laws.specs.Logic.{when, either}
 use Rattle.laws.proofs.Logic.{either-way}
 use Rattle.plans.specs.declared.Reading.{Reading}
-use Rattle.plans.specs.Text.{endsWord, wordLength, word, withDigit, numberOn, number, lineFeed, lineFeeds, wordAt}
-use Rattle.plans.specs.Reading.{readWord, finishLine, scanAfter, beginsWord, readByte, noPlan, answer, finished, readFrom, bitPlace, isBit, markedBit, markedFrom}
+use Rattle.plans.specs.Text.{blank, endsWord, wordLength, word, noNumber, withDigit, numberOn, number, lineFeed, comment, lineFeeds, wordAt}
+use Rattle.plans.specs.Reading.{readWord, finishLine, between, inWord, inComment, scanAfter, beginsWord, readByte, noPlan, answer, finished, readFrom, bitPlace, isBit, markedBit, markedFrom}
+use Rattle.plans.specs.Inner.{nowhere, bitAt}
+
+-- nothing is written past the end
+pub set-past : (list : List ℕ) (at b : ℕ) → length list ≤ at → set list at b ≡ list
+set-past [] at b past = refl
+set-past (x ∷ list) zero b past = absurd (not-suc-le-zero past)
+set-past (x ∷ list) (suc at) b past = ap (λ (rest : List ℕ). x ∷ rest) (set-past list at b (le-of-suc-le-suc past))
+
+set-where : (is-bit : Bool) (list : List ℕ) (at : ℕ) → length list ≤ nowhere → set list (when is-bit at nowhere) 1 ≡ when is-bit (set list at 1) list
+unfolding when
+set-where true list at fits = refl
+set-where false list at fits = set-past list nowhere 1 fits
+
+abbrev behind : Bool → Bool → Bool → ℕ
+behind feed mark white = when feed between (when mark inComment (when white between inWord))
+
+in-word : (feed mark white : Bool) → behind feed mark white ≡ inWord → either white (either feed mark) ≡ false
+unfolding when either
+in-word true mark white is-word = absurd (omega (arith, is-word))
+in-word false true white is-word = absurd (omega (arith, is-word))
+in-word false false true is-word = absurd (omega (arith, is-word))
+in-word false false false is-word = refl
+
+not-in-word : (feed mark white : Bool) → (behind feed mark white ≡ inWord → ⊥) → either white (either feed mark) ≡ true
+unfolding when either
+not-in-word feed mark true no-word = refl
+not-in-word true mark false no-word = refl
+not-in-word false true false no-word = refl
+not-in-word false false false no-word = absurd (no-word refl)
+
+-- where the byte behind a byte stands, outside comments
+module _ (b : ℕ) where
+  abbrev Blank : Type 0
+  Blank = (b ≡ 9) ⊎ (b ≡ 13) ⊎ (b ≡ 32) ⊎ (b ≡ 44)
+
+  pub after-blank : Blank → scanAfter between b ≡ between
+  unfolding scanAfter when either
+  after-blank (inl is) = ap (scanAfter between) is
+  after-blank (inr (inl is)) = ap (scanAfter between) is
+  after-blank (inr (inr (inl is))) = ap (scanAfter between) is
+  after-blank (inr (inr (inr is))) = ap (scanAfter between) is
+
+  pub after-feed : b ≡ lineFeed → scanAfter between b ≡ between
+  unfolding scanAfter when
+  after-feed is = ap (scanAfter between) is
+
+  pub after-mark : b ≡ comment → scanAfter between b ≡ inComment
+  unfolding scanAfter when
+  after-mark is = ap (scanAfter between) is
+
+  pub after-other : (Blank → ⊥) → (b ≡ lineFeed → ⊥) → (b ≡ comment → ⊥) → scanAfter between b ≡ inWord
+  unfolding scanAfter when either
+  after-other no-blank no-feed no-mark =
+      simp (ne-eqb b 10 no-feed, ne-eqb b 35 no-mark, ne-eqb b 32 (λ is. no-blank (inr (inr (inl is)))), ne-eqb b 9 (λ is. no-blank (inl is)), ne-eqb b 13 (λ is. no-blank (inr (inl is))), ne-eqb b 44 (λ is. no-blank (inr (inr (inr is)))))
+
+  -- a byte ends a word where no word stands behind it
+  pub goes-on : scanAfter between b ≡ inWord → endsWord b ≡ false
+  unfolding scanAfter when
+  goes-on is-word = in-word (eqb b lineFeed) (eqb b comment) (blank b) is-word
+
+  pub ended : (scanAfter between b ≡ inWord → ⊥) → endsWord b ≡ true
+  unfolding scanAfter when
+  ended no-word = not-in-word (eqb b lineFeed) (eqb b comment) (blank b) no-word
+
+-- a word is no longer than what it stands in
+pub word-within : (text : List ℕ) → wordLength text ≤ length text
+unfolding wordLength
+word-within [] = zero-le
+word-within (b ∷ rest) = either-way (λ (n : ℕ). n ≤ suc (length rest)) (endsWord b) 0 (suc (wordLength rest)) (λ _. zero-le) (λ _. omega (arith, word-within rest))
+
+-- what is no number stays none
+none-on : (word : List ℕ) → numberOn noNumber word ≡ noNumber
+unfolding numberOn when
+none-on [] = refl
+none-on (b ∷ rest) = ap (λ (n : ℕ). numberOn n rest) (whichever (ltb b 48) (ltb 57 b)) ∙ none-on rest
+  where
+    whichever : (low high : Bool) → when low noNumber (when high noNumber noNumber) ≡ noNumber
+    whichever true high = refl
+    whichever false true = refl
+    whichever false false = refl
 
 module _ (text : List ℕ) (i : ℕ) where
-  -- a part of a text that goes to its end
-  pub rest-of : take (length text - i) (drop i text) ≡ drop i text
-  rest-of = take-all (length text - i) (drop i text) (subst (λ (n : ℕ). n ≤ length text - i) (sym (length-drop i text)) (le-refl (length text - i)))
-
   module _ (more : i < length text) where
     here : drop i text ≡ getD text i 0 ∷ drop (i + 1) text
     here = drop-cons text i 0 more ∙ ap (λ (next : ℕ). getD text i 0 ∷ drop next text) (sym (add-one i))
@@ -38,42 +115,66 @@ module _ (text : List ℕ) (i : ℕ) where
     unfolding numberOn
     number-on n = ap (numberOn n) here
 
+    pub no-digit : (n : ℕ) → withDigit n (getD text i 0) ≡ noNumber → numberOn n (drop i text) ≡ noNumber
+    no-digit n none = number-on n ∙ ap (λ (m : ℕ). numberOn m (drop (i + 1) text)) none ∙ none-on (drop (i + 1) text)
+
     pub lines-on : (at : ℕ) → i < at → lineFeeds (take (at - i) (drop i text)) ≡ when (eqb (getD text i 0) lineFeed) 1 0 + lineFeeds (take (at - (i + 1)) (drop (i + 1) text))
     unfolding lineFeeds
     lines-on at before =
         let one-more : at - i ≡ suc (at - (i + 1)) = omega (arith, before) in
         ap (λ (n : ℕ). lineFeeds (take n (drop i text))) one-more ∙ ap (λ (rest : List ℕ). lineFeeds (take (suc (at - (i + 1))) rest)) here
 
-    module _ (r next : Reading) (scan : ℕ) (rest : List ℕ) (is-rest : rest ≡ drop i text) (is-next : next ≡ readByte r scan (getD rest 0 0) (drop 1 rest)) where
-      byte-here : next ≡ readByte r scan (getD text i 0) (drop (i + 1) text)
-      byte-here = is-next ∙ ap (λ (list : List ℕ). readByte r scan (getD list 0 0) (drop 1 list)) (is-rest ∙ here)
+    module _ (r : Reading) (scan : ℕ) where
+      abbrev this : ℕ
+      this = getD text i 0
 
-      pub read-on : next .what ≡ 0 → readFrom r scan i (drop i text) ≡ readFrom next (scanAfter scan (getD text i 0)) (i + 1) (drop (i + 1) text)
-      unfolding readFrom when
-      read-on right = simp (here, ← byte-here, eq-eqb (next .what) 0 right)
+      abbrev rest : List ℕ
+      rest = drop (i + 1) text
 
-      pub read-stop : (next .what ≡ 0 → ⊥) → readFrom r scan i (drop i text) ≡ answer noPlan (next .what) i
-      unfolding readFrom when
-      read-stop wrong = simp (here, ← byte-here, ne-eqb (next .what) 0 wrong)
+      pub byte-ends : this ≡ lineFeed → readByte r scan this rest ≡ finishLine r
+      unfolding readByte when
+      byte-ends ends = simp (eq-eqb this lineFeed ends)
 
-      pub marked-on : (damaged after : List ℕ) → after ≡ markedBit r scan (getD rest 0 0) (drop 1 rest) damaged → markedFrom r scan (drop i text) damaged ≡ markedFrom next (scanAfter scan (getD text i 0)) (drop (i + 1) text) after
-      unfolding markedFrom
-      marked-on damaged after is-after =
-          let bit-here : after ≡ markedBit r scan (getD text i 0) (drop (i + 1) text) damaged = is-after ∙ ap (λ (list : List ℕ). markedBit r scan (getD list 0 0) (drop 1 list) damaged) (is-rest ∙ here) in
-          let rest-here = drop (i + 1) text in
-          let scan-here = scanAfter scan (getD text i 0) in
-          ap (λ (list : List ℕ). markedFrom r scan list damaged) here
-          ∙ ap (λ (x : Reading). markedFrom x scan-here rest-here (markedBit r scan (getD text i 0) rest-here damaged)) (sym byte-here)
-          ∙ ap (λ (list : List ℕ). markedFrom next scan-here rest-here list) (sym bit-here)
+      within-line : (this ≡ lineFeed → ⊥) → readByte r scan this rest ≡ when (beginsWord scan this) (readWord r (wordAt text i)) r
+      unfolding readByte when
+      within-line within =
+          ap (λ (t : Bool). when t (finishLine r) (when (beginsWord scan this) (readWord r (word (this ∷ rest))) r)) (ne-eqb this lineFeed within)
+          ∙ ap (λ (front : List ℕ). when (beginsWord scan this) (readWord r (word front)) r) (sym here)
 
-      -- and the list stays as long as it was
-      pub marked-length : (damaged after : List ℕ) → after ≡ markedBit r scan (getD rest 0 0) (drop 1 rest) damaged → length after ≡ length damaged
-      marked-length damaged after is-after =
-          let place = bitPlace (r .end) (number (word (getD rest 0 0 ∷ drop 1 rest))) in
-          ap length is-after
-          ∙ either-way (λ (list : List ℕ). length list ≡ length damaged) (isBit r scan (getD rest 0 0)) (set damaged place 1) damaged
-          (λ is-bit. length-set damaged place 1)
-          (λ is-none. refl)
+      pub byte-reads : (this ≡ lineFeed → ⊥) → beginsWord scan this ≡ true → readByte r scan this rest ≡ readWord r (wordAt text i)
+      unfolding when
+      byte-reads within begins = within-line within ∙ ap (λ (t : Bool). when t (readWord r (wordAt text i)) r) begins
+
+      pub byte-passes : (this ≡ lineFeed → ⊥) → beginsWord scan this ≡ false → readByte r scan this rest ≡ r
+      unfolding when
+      byte-passes within passes = within-line within ∙ ap (λ (t : Bool). when t (readWord r (wordAt text i)) r) passes
+
+      pub bit-here : isBit r scan this ≡ true → bitAt r scan this rest ≡ bitPlace (r .end) (number (wordAt text i))
+      unfolding bitAt when
+      bit-here is-bit = simp is-bit (ap (λ (front : List ℕ). bitPlace (r .end) (number (word front))) (sym here))
+
+      pub no-bit : isBit r scan this ≡ false → bitAt r scan this rest ≡ nowhere
+      unfolding bitAt when
+      no-bit is-none = simp is-none
+
+      module _ (next : Reading) (is-next : next ≡ readByte r scan this rest) where
+        pub read-on : (after : ℕ) → after ≡ scanAfter scan this → next .what ≡ 0 → readFrom next after (i + 1) rest ≡ readFrom r scan i (drop i text)
+        unfolding readFrom when
+        read-on after is-after right = simp (here, ← is-next, eq-eqb (next .what) 0 right, is-after)
+
+        pub read-stop : (next .what ≡ 0 → ⊥) → readFrom r scan i (drop i text) ≡ answer noPlan (next .what) i
+        unfolding readFrom when
+        read-stop wrong = simp (here, ← is-next, ne-eqb (next .what) 0 wrong)
+
+        -- what is marked at no place is as it was
+        pub marked-on :
+            (after at : ℕ) (damaged now : List ℕ) → after ≡ scanAfter scan this → at ≡ bitAt r scan this rest → now ≡ set damaged at 1 → length damaged ≤ nowhere
+            → (markedFrom next after rest now ≡ markedFrom r scan (drop i text) damaged) × (length now ≡ length damaged)
+        unfolding markedFrom bitAt
+        marked-on after at damaged now is-after is-at is-now fits =
+            let is-marked : now ≡ markedBit r scan this rest damaged = is-now ∙ ap (λ (place : ℕ). set damaged place 1) is-at ∙ set-where (isBit r scan this) damaged _ fits in
+            let is-read = ap (λ (x : Reading). markedFrom x (scanAfter scan this) rest (markedBit r scan this rest damaged)) is-next in
+            (simp (is-after, is-marked) (is-read ∙ ap (λ (list : List ℕ). markedFrom r scan list damaged) (sym here)), ap length is-now ∙ length-set damaged at 1)
 
   module _ (over : length text ≤ i) where
     nothing : drop i text ≡ []
@@ -110,43 +211,6 @@ pub one-at-most : (test : Bool) → when test 1 0 ≤ 1
 unfolding when
 one-at-most true = le-refl 1
 one-at-most false = zero-le
-
--- what the byte at the front of the rest of a text does
-module _ (rest : List ℕ) (some : 0 < length rest) (r : Reading) (scan : ℕ) where
-  front : rest ≡ getD rest 0 0 ∷ drop 1 rest
-  front = here rest 0 some
-
-  pub byte-ends : getD rest 0 0 ≡ lineFeed → readByte r scan (getD rest 0 0) (drop 1 rest) ≡ finishLine r
-  unfolding readByte when
-  byte-ends ends = simp (eq-eqb (getD rest 0 0) lineFeed ends)
-
-  within-line : (getD rest 0 0 ≡ lineFeed → ⊥) → readByte r scan (getD rest 0 0) (drop 1 rest) ≡ when (beginsWord scan (getD rest 0 0)) (readWord r (word rest)) r
-  unfolding readByte when
-  within-line within =
-      ap (λ (t : Bool). when t (finishLine r) (when (beginsWord scan (getD rest 0 0)) (readWord r (word (getD rest 0 0 ∷ drop 1 rest))) r)) (ne-eqb (getD rest 0 0) lineFeed within)
-      ∙ ap (λ (text : List ℕ). when (beginsWord scan (getD rest 0 0)) (readWord r (word text)) r) (sym front)
-
-  pub byte-reads : (getD rest 0 0 ≡ lineFeed → ⊥) → beginsWord scan (getD rest 0 0) ≡ true → readByte r scan (getD rest 0 0) (drop 1 rest) ≡ readWord r (word rest)
-  unfolding when
-  byte-reads within begins = within-line within ∙ ap (λ (t : Bool). when t (readWord r (word rest)) r) begins
-
-  pub byte-passes : (getD rest 0 0 ≡ lineFeed → ⊥) → beginsWord scan (getD rest 0 0) ≡ false → readByte r scan (getD rest 0 0) (drop 1 rest) ≡ r
-  unfolding when
-  byte-passes within passes = within-line within ∙ ap (λ (t : Bool). when t (readWord r (word rest)) r) passes
-
-  pub bit-marked : (damaged : List ℕ) → isBit r scan (getD rest 0 0) ≡ true → markedBit r scan (getD rest 0 0) (drop 1 rest) damaged ≡ set damaged (bitPlace (r .end) (number (word rest))) 1
-  unfolding when
-  bit-marked damaged is-bit = simp is-bit (ap (λ (text : List ℕ). set damaged (bitPlace (r .end) (number (word text))) 1) (sym front))
-
-  pub bit-passed : (damaged : List ℕ) → isBit r scan (getD rest 0 0) ≡ false → markedBit r scan (getD rest 0 0) (drop 1 rest) damaged ≡ damaged
-  unfolding when
-  bit-passed damaged is-none = simp is-none
-
--- nothing is written past the end
-pub set-past : (list : List ℕ) (at b : ℕ) → length list ≤ at → set list at b ≡ list
-set-past [] at b past = refl
-set-past (x ∷ list) zero b past = absurd (not-suc-le-zero past)
-set-past (x ∷ list) (suc at) b past = ap (λ (rest : List ℕ). x ∷ rest) (set-past list at b (le-of-suc-le-suc past))
 
 -- no word stands past the end
 pub no-word : (text : List ℕ) (at : ℕ) → length text ≤ at → wordAt text at ≡ []

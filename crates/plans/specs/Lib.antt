@@ -2,3 +2,4 @@ pub mod Text
 pub mod Reading
 pub mod Plain
 pub mod Good
+pub mod Inner

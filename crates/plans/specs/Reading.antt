@@ -110,13 +110,13 @@ home = 7
 abbrev pub setAt : Plan → ℕ → ℕ → ℕ
 setAt plan end k = getD (plan .sets) (place end k) 0
 
--- the line's end with one of its sets anew; modes behind it belong to the function
-abbrev pub store : Reading → ℕ → ℕ → ℕ → Reading
-store r k numbers function = record {
+-- the line's end with one of its sets anew; modes behind it belong to the function, and the first function that the line names
+abbrev pub store : Reading → ℕ → ℕ → ℕ → ℕ → Reading
+store r k numbers function first = record {
   plan = planned (set (r .plan .sets) (place (r .end) k) numbers) (r .plan .function) (r .plan .te);
   end = r .end;
   function = function;
-  first = r .first;
+  first = first;
   context = inEnd;
   what = r .what;
 }
@@ -126,25 +126,25 @@ abbrev pub added : ℕ → ℕ → ℕ
 added numbers n = when (ltb n 16) ((numbers + 2 ^ n) % 65536) numbers
 
 -- a number is said of a function, or at 0 of the end, and not twice
-unfoldable pub say : Reading → ℕ → ℕ → ℕ → Reading
-say r k n function =
+unfoldable pub say : Reading → ℕ → ℕ → ℕ → ℕ → Reading
+say r k n function first =
     when (inSet (setAt (r .plan) (r .end) k) n) (mistaken r twice)
-    (store r k (added (setAt (r .plan) (r .end) k) n) function)
+    (store r k (added (setAt (r .plan) (r .end) k) n) function first)
 
 -- the first of two functions that is one
 abbrev pub firstOf : ℕ → ℕ → ℕ
 firstOf first function = when (eqb first 0) function first
 
 unfoldable pub nameFunction : Reading → ℕ → Reading
-nameFunction r function = say (record { plan = r .plan; end = r .end; function = r .function; first = firstOf (r .first) function; context = r .context; what = r .what }) function 0 function
+nameFunction r function = say r function 0 function (firstOf (r .first) function)
 
 -- the home function is named once
 unfoldable pub nameHome : Reading → ℕ → Reading
-nameHome r function = when (ltb 0 (setAt (r .plan) (r .end) home)) (mistaken r twice) (store r home function 0)
+nameHome r function = when (ltb 0 (setAt (r .plan) (r .end) home)) (mistaken r twice) (store r home function 0 (r .first))
 
 -- a mode belongs to the function before it
 unfoldable pub nameMode : Reading → ℕ → Reading
-nameMode r n = when (eqb (r .function) 0) (mistaken r modeFirst) (say r (r .function) n (r .function))
+nameMode r n = when (eqb (r .function) 0) (mistaken r modeFirst) (say r (r .function) n (r .function) (r .first))
 
 -- a word of an end's line
 unfoldable pub endWord : Reading → Meaning → Reading
@@ -152,7 +152,7 @@ endWord r m =
     when (eqb (m .kind) function) (nameFunction r (m .number))
     (when (eqb (m .kind) mode) (nameMode r (m .number))
     (when (eqb (m .kind) otherMode) (nameMode r (m .number))
-    (when (eqb (m .kind) quality) (say r 0 (m .number) 0)
+    (when (eqb (m .kind) quality) (say r 0 (m .number) 0 (r .first))
     (when (eqb (m .kind) part) (going r (m .number))
     (mistaken r inEnd)))))
 
@@ -161,7 +161,7 @@ unfoldable pub isSaid : Plan → ℕ → Bool
 isSaid plan number =
     when (eqb number afterCall) (ltb 0 (plan .function))
     (when (eqb number afterTe) (ltb 0 (plan .te))
-    (both (ltb number afterCall) (ltb 0 (setAt plan number home))))
+    (when (eqb number afterDamaged) false (ltb 0 (setAt plan number home))))
 
 abbrev pub beginNamed : Reading → ℕ → ℕ → ℕ → Reading
 beginNamed r name end context = when (isSaid (r .plan) name) (mistaken r twice) (beginLine r end context)
@@ -177,14 +177,19 @@ firstWord r m =
 unfoldable pub lacksCall : Plan → Bool
 lacksCall plan = both (ltb 0 (setAt plan 1 home)) (both (ltb 0 (plan .function)) (eqb (setAt plan 1 (plan .function) % 2) 0))
 
--- something that is planned, and what may come next; or the mistake that the call cannot be made
-unfoldable pub planning : Reading → Plan → ℕ → Reading
-planning r plan context =
-    when (lacksCall plan) (mistaken r callNotHad)
-    (record { plan = plan; end = r .end; function = r .function; first = r .first; context = context; what = r .what })
+-- a call with this function and Te, and what may come next; or the mistake that it cannot be made
+unfoldable pub planning : Reading → ℕ → ℕ → ℕ → Reading
+planning r function te context = record {
+  plan = planned (r .plan .sets) function te;
+  end = r .end;
+  function = r .function;
+  first = r .first;
+  context = context;
+  what = when (lacksCall (planned (r .plan .sets) function te)) callNotHad (r .what);
+}
 
 abbrev pub nameCall : Reading → ℕ → Reading
-nameCall r function = planning r (planned (r .plan .sets) function (r .plan .te)) done
+nameCall r function = planning r function (r .plan .te) done
 
 -- a function where one is asked for: the home function, or the one called
 unfoldable pub functionWord : Reading → ℕ → Reading
@@ -199,12 +204,12 @@ nameWord r m =
     when (eqb (r .context) inEnd) (endWord r m)
     (when (eqb (r .context) beginning) (firstWord r m)
     (when (eqb (m .kind) function) (functionWord r (m .number))
-    (when (eqb (m .kind) wanted) (when (eqb (r .context) afterWants) (say r 0 (m .number) 0) (mistaken r (r .context)))
+    (when (eqb (m .kind) wanted) (when (eqb (r .context) afterWants) (say r 0 (m .number) 0 (r .first)) (mistaken r (r .context)))
     (when (eqb (m .kind) end) (when (eqb (r .context) afterDamaged) (beginLine r (m .number) firstBit) (mistaken r (r .context)))
     (mistaken r (r .context))))))
 
 abbrev pub teWord : Reading → ℕ → Reading
-teWord r te = when (isTe te) (planning r (planned (r .plan .sets) (r .plan .function) te) done) (mistaken r afterTe)
+teWord r te = when (isTe te) (planning r (r .plan .function) te done) (mistaken r afterTe)
 
 -- a call is rehearsed for 9,000 bits, 30 seconds
 abbrev pub bitWord : Reading → ℕ → Reading
@@ -242,13 +247,13 @@ recordMistake own =
 
 -- the first function that an end's line names is the home function where no other is
 unfoldable pub withHome : Reading → Reading
-withHome r = when (ltb 0 (setAt (r .plan) (r .end) home)) r (store r home (r .first) 0)
+withHome r = when (ltb 0 (setAt (r .plan) (r .end) home)) r (store r home (r .first) 0 (r .first))
 
 -- the end of an end's line
 unfoldable pub finishEnd : Reading → Reading
 finishEnd r =
     when (eqb (recordMistake (recordOf (withHome r .plan) (withHome r .end))) 0)
-    (planning (withHome r) (withHome r .plan) beginning)
+    (planning (withHome r) (withHome r .plan .function) (withHome r .plan .te) beginning)
     (mistaken (withHome r) (recordMistake (recordOf (withHome r .plan) (withHome r .end))))
 
 -- a line may end where this may come next

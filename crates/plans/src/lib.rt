@@ -8,18 +8,19 @@
 //
 // Words stand apart by blanks, tabs and commas, in upper or lower case; # begins a comment. The lines may come in any order.
 use items::Item;
-use names::Meaning;
 use records::Modes;
 use records::Record;
 ghost use mathlib.Core.Path.{_≡_};
-ghost use Prim.Native.Nat.{_<_, _≤_};
-ghost use lib.ListN.{length, getD, set, drop};
-ghost use mathlib.Core.List.{[], _++_};
-ghost use Rattle.laws.specs.Logic.{when};
+ghost use Prim.Native.Nat.{_<_, _≤_, _+_, _-_, _%_};
+ghost use lib.Dec.{eqb};
+ghost use lib.ListN.{length, getD, set, take, drop};
+ghost use Rattle.laws.specs.Logic.{when, either};
 ghost use Rattle.printing.specs.Page.{page, typed};
-ghost use Rattle.plans.specs.Text.{blank, endsWord, wordLength, withDigit, number, linesBefore, wordAt};
-ghost use Rattle.plans.specs.Reading.{mistaken, going, beginLine, place, setAt, store, added, say, firstOf, nameFunction, nameHome, nameMode, endWord, isSaid, beginNamed, firstWord, lacksCall, planning, nameCall, functionWord, nameWord, teWord, bitWord, atBits, readWord, modesOf, recordOf, recordMistake, withHome, finishEnd, mayEnd, finishLine, between, scanAfter, beginsWord, readByte, noPlan, fresh, answer, missing, withDefault, finished, readText, bitPlace, isBit, markedBit, markedFrom, marked};
-ghost use Rattle.plans.specs.Plain.{functionName, functionText, functionsText, wantsText, endText, bitText, bitsText, damageText, callText, plain};
+ghost use Rattle.plans.specs.Text.{wordLength, number, linesBefore, wordAt};
+ghost use Rattle.plans.specs.Reading.{mistaken, going, place, setAt, store, added, say, firstOf, isSaid, beginNamed, lacksCall, planning, nameWord, teWord, bitWord, readWord, modesOf, recordOf, recordMistake, withHome, finishEnd, finishLine, between, scanAfter, beginsWord, readByte, noPlan, fresh, answer, finished, readText, bitPlace, marked, afterTe, firstBit, bits, callNotHad};
+ghost use Rattle.plans.specs.Plain.{functionText, bitsText, plain};
+ghost use Rattle.plans.specs.Inner.{Writes, homeText, pieceText, piecesText, Front, frontText, lacking, bitAt};
+ghost use Rattle.steps.specs.Session.{defaultTe};
 
 // How long a call is rehearsed, in bits of 300 a second: 30 seconds.
 pub const BIT_TIMES: usize = 9000;
@@ -68,6 +69,29 @@ pub const NO_CALL: u8 = 18;
 
 pub const CALL_NOT_HAD: u8 = 19;
 
+// What a word may name where: the kind of what it names, times 256, and what may come next.
+const END_AT_BEGIN: u16 = 256 * names::END as u16 + BEGIN as u16;
+
+const LINE_AT_BEGIN: u16 = 256 * names::LINE as u16 + BEGIN as u16;
+
+const FUNCTION_IN_END: u16 = 256 * names::FUNCTION as u16 + IN_END as u16;
+
+const MODE_IN_END: u16 = 256 * names::MODE as u16 + IN_END as u16;
+
+const OTHER_MODE_IN_END: u16 = 256 * names::OTHER_MODE as u16 + IN_END as u16;
+
+const PART_IN_END: u16 = 256 * names::PART as u16 + IN_END as u16;
+
+const QUALITY_IN_END: u16 = 256 * names::QUALITY as u16 + IN_END as u16;
+
+const FUNCTION_AFTER_HOME: u16 = 256 * names::FUNCTION as u16 + AFTER_HOME as u16;
+
+const WANTED_AFTER_WANTS: u16 = 256 * names::WANTED as u16 + AFTER_WANTS as u16;
+
+const FUNCTION_AFTER_CALL: u16 = 256 * names::FUNCTION as u16 + AFTER_CALL as u16;
+
+const END_AFTER_DAMAGED: u16 = 256 * names::END as u16 + AFTER_DAMAGED as u16;
+
 // Where the next byte stands: between words, in a word, in a comment.
 const BETWEEN: u8 = 0;
 
@@ -84,6 +108,15 @@ const COMMENT: u8 = b'#';
 
 // What `number` answers for a word that is none: more than any number that may be written.
 const NO_NUMBER: u32 = 100000;
+
+// No place: past the end of every slice.
+const NOWHERE: usize = 18446744073709551615;
+
+// Te of a start without a value.
+const DEFAULT_TE: u16 = steps::DEFAULT_TE as u16;
+
+// How many bits both ends have in a rehearsal.
+const BITS_OF_BOTH: usize = 2 * BIT_TIMES;
 
 // How many damaged bits the plain form has in a line.
 const BITS_A_LINE: usize = 16;
@@ -114,25 +147,48 @@ struct Reading {
     what: u8,
 }
 
-fn is_blank(b: u8) -> bool
-    ensures { λ r. ⌜ r ≡ blank b ⌝ }
+// Where the byte behind a byte stands, outside comments.
+fn after_byte(b: u8) -> u8
+    ensures { λ r. ⌜ r ≡ scanAfter between b ⌝ }
 {
-    b == b' ' || (b == b'\t' || (b == b'\r' || b == b','))
+    match b {
+        b' ' | b'\t' | b'\r' | b',' => BETWEEN,
+        LINE_FEED => BETWEEN,
+        COMMENT => IN_COMMENT,
+        _ => IN_WORD,
+    }
 }
 
-fn ends_word(b: u8) -> bool
-    ensures { λ r. ⌜ r ≡ endsWord b ⌝ }
+// The same behind a byte that may stand in a comment, which a line feed ends.
+fn scan_after(scan: u8, b: u8) -> u8
+    ensures { λ r. ⌜ r ≡ scanAfter scan b ⌝ }
 {
-    is_blank(b) || (b == LINE_FEED || b == COMMENT)
+    if b == LINE_FEED {
+        return BETWEEN;
+    }
+    if scan == IN_COMMENT {
+        return IN_COMMENT;
+    }
+    after_byte(b)
 }
 
-// The length of the word at the front of a text.
-fn word_length(text: &[u8]) -> usize
-    ensures { λ r. ⌜ (r ≡ wordLength (now (text .entry))) × (r ≤ length (now (text .entry))) ⌝ }
+// Whether a byte begins a word.
+fn begins_word(scan: u8, b: u8) -> bool
+    ensures { λ r. ⌜ r ≡ beginsWord scan b ⌝ }
 {
-    let mut i: usize = 0;
+    if after_byte(b) == IN_WORD {
+        return scan == BETWEEN;
+    }
+    false
+}
+
+// Where the word at a place ends.
+fn word_end(text: &[u8], at: usize) -> usize
+    ensures { λ r. ⌜ r ≡ at + wordLength (drop at (now (text .entry))) ⌝ }
+{
+    let mut i = at;
     while i < text.len() {
-        if ends_word(text[i]) {
+        if after_byte(text[i]) != IN_WORD {
             return i;
         }
         i += 1;
@@ -140,20 +196,15 @@ fn word_length(text: &[u8]) -> usize
     i
 }
 
-// A number with one more digit.
-fn with_digit(n: u32, b: u8) -> u32
-    ensures { λ r. ⌜ r ≡ withDigit n b ⌝ }
+// The word at a place, of the text itself; empty where there is none.
+pub fn word_at(text: &[u8], at: usize) -> &[u8]
+    ensures { λ r. ⌜ now r ≡ wordAt (now (text .entry)) at ⌝ }
 {
-    if b < b'0' {
-        return NO_NUMBER;
+    let end = word_end(text, at);
+    if end <= text.len() {
+        return &text[at..end];
     }
-    if b'9' < b {
-        return NO_NUMBER;
-    }
-    if 9999 < n {
-        return NO_NUMBER;
-    }
-    10 * n + (b - b'0') as u32
+    &text[..0]
 }
 
 // A decimal number below 100,000.
@@ -163,38 +214,20 @@ fn number(word: &[u8]) -> u32
     let mut n: u32 = 0;
     let mut i: usize = 0;
     while i < word.len() {
-        n = with_digit(n, word[i]);
+        let b = word[i];
+        if b < b'0' {
+            return NO_NUMBER;
+        }
+        if b'9' < b {
+            return NO_NUMBER;
+        }
+        if 9999 < n {
+            return NO_NUMBER;
+        }
+        n = 10 * n + (b - b'0') as u32;
         i += 1;
     }
     n
-}
-
-fn mistaken(r: Reading, what: u8) -> Reading
-    ensures { λ next. ⌜ next ≡ mistaken r what ⌝ }
-{
-    let mut next = r;
-    next.what = what;
-    next
-}
-
-fn going(r: Reading, context: u8) -> Reading
-    ensures { λ next. ⌜ next ≡ going r context ⌝ }
-{
-    let mut next = r;
-    next.context = context;
-    next
-}
-
-// A line that is about an end, or about none.
-fn begin_line(r: Reading, end: u8, context: u8) -> Reading
-    ensures { λ next. ⌜ next ≡ beginLine r end context ⌝ }
-{
-    let mut next = r;
-    next.end = end;
-    next.function = 0;
-    next.first = 0;
-    next.context = context;
-    next
 }
 
 // Where one of the eight sets of an end stands.
@@ -215,18 +248,30 @@ fn set_at(plan: Plan, end: u8, k: u8) -> u16
     sets[at]
 }
 
-// The line's end with one of its sets anew; modes behind it belong to `function`.
-fn store(r: Reading, k: u8, set: u16, function: u8) -> Reading
-    ensures { λ next. ⌜ next ≡ store r k set function ⌝ }
+// What may come next, and a mistake or 0.
+fn going(mut r: Reading, context: u8, what: u8) -> Reading
+    ensures { λ next. ⌜ next ≡ mistaken (going r context) what ⌝ }
+{
+    r.context = context;
+    r.what = what;
+    r
+}
+
+// The line's end with one of its sets anew; modes behind it belong to `function`, and `first` is the first function that the line names.
+fn store(r: Reading, k: u8, set: u16, function: u8, first: u8) -> Reading
+    ensures { λ next. ⌜ next ≡ store r k set function first ⌝ }
 {
     let at = place(r.end, k);
     let mut plan = r.plan;
     plan.sets[at] = set;
-    let mut next = r;
-    next.plan = plan;
-    next.function = function;
-    next.context = IN_END;
-    next
+    Reading {
+        plan: plan,
+        end: r.end,
+        function: function,
+        first: first,
+        context: IN_END,
+        what: r.what,
+    }
 }
 
 // A set with one number more; none above 15 is in a set.
@@ -240,14 +285,14 @@ fn added(set: u16, n: u8) -> u16
 }
 
 // A number is said of a function, or at 0 of the end, and not twice.
-fn say(r: Reading, k: u8, n: u8, function: u8) -> Reading
-    ensures { λ next. ⌜ next ≡ say r k n function ⌝ }
+fn say(r: Reading, k: u8, n: u8, function: u8, first: u8) -> Reading
+    ensures { λ next. ⌜ next ≡ say r k n function first ⌝ }
 {
     let set = set_at(r.plan, r.end, k);
     if items::in_set(set, Item(n)) {
-        return mistaken(r, TWICE);
+        return going(r, r.context, TWICE);
     }
-    store(r, k, added(set, n), function)
+    store(r, k, added(set, n), function, first)
 }
 
 // The first of two functions that is one.
@@ -260,210 +305,162 @@ fn first_of(first: u8, function: u8) -> u8
     first
 }
 
-fn name_function(r: Reading, function: u8) -> Reading
-    ensures { λ next. ⌜ next ≡ nameFunction r function ⌝ }
-{
-    let mut next = r;
-    next.first = first_of(r.first, function);
-    say(next, function, 0, function)
-}
-
-// The home function is named once.
-fn name_home(r: Reading, function: u8) -> Reading
-    ensures { λ next. ⌜ next ≡ nameHome r function ⌝ }
-{
-    if 0 < set_at(r.plan, r.end, HOME) {
-        return mistaken(r, TWICE);
-    }
-    store(r, HOME, function as u16, 0)
-}
-
-// A mode belongs to the function before it.
-fn name_mode(r: Reading, n: u8) -> Reading
-    ensures { λ next. ⌜ next ≡ nameMode r n ⌝ }
-{
-    if r.function == 0 {
-        return mistaken(r, MODE_FIRST);
-    }
-    say(r, r.function, n, r.function)
-}
-
-// A word of an end's line.
-fn end_word(r: Reading, m: Meaning) -> Reading
-    ensures { λ next. ⌜ next ≡ endWord r m ⌝ }
-{
-    if m.kind == names::FUNCTION {
-        return name_function(r, m.number);
-    }
-    if m.kind == names::MODE {
-        return name_mode(r, m.number);
-    }
-    if m.kind == names::OTHER_MODE {
-        return name_mode(r, m.number);
-    }
-    if m.kind == names::QUALITY {
-        return say(r, 0, m.number, 0);
-    }
-    if m.kind == names::PART {
-        return going(r, m.number);
-    }
-    mistaken(r, IN_END)
-}
-
 // Whether a line with this name stands in the text already, which only those for damaged bits may.
 fn is_said(plan: Plan, number: u8) -> bool
     ensures { λ r. ⌜ r ≡ isSaid plan number ⌝ }
 {
-    if number == AFTER_CALL {
-        return 0 < plan.function;
+    match number {
+        AFTER_CALL => 0 < plan.function,
+        AFTER_TE => 0 < plan.te,
+        AFTER_DAMAGED => false,
+        _ => 0 < set_at(plan, number, HOME),
     }
-    if number == AFTER_TE {
-        return 0 < plan.te;
-    }
-    number < AFTER_CALL && 0 < set_at(plan, number, HOME)
 }
 
-// A line, by the number of its name, which only those for damaged bits may have in common.
+// A line that is about an end, or about none, by the number of its name.
 fn begin_named(r: Reading, name: u8, end: u8, context: u8) -> Reading
     ensures { λ next. ⌜ next ≡ beginNamed r name end context ⌝ }
 {
     if is_said(r.plan, name) {
-        return mistaken(r, TWICE);
+        return going(r, r.context, TWICE);
     }
-    begin_line(r, end, context)
+    let plan = r.plan;
+    Reading {
+        plan: plan,
+        end: end,
+        function: 0,
+        first: 0,
+        context: context,
+        what: r.what,
+    }
 }
 
-// The first word of a line.
-fn first_word(r: Reading, m: Meaning) -> Reading
-    ensures { λ next. ⌜ next ≡ firstWord r m ⌝ }
+// The mistake that the caller is known, and the function called, and the caller has not that function; or what it was.
+fn call_mistake(plan: Plan, what: u8) -> u8
+    ensures { λ r. ⌜ r ≡ when (lacksCall plan) callNotHad what ⌝ }
 {
-    if m.kind == names::END {
-        return begin_named(r, m.number, m.number, IN_END);
+    if set_at(plan, steps::CALLER, HOME) == 0 {
+        return what;
     }
-    if m.kind == names::LINE {
-        return begin_named(r, m.number, 0, m.number);
+    if plan.function == 0 {
+        return what;
     }
-    mistaken(r, BEGIN)
+    if set_at(plan, steps::CALLER, plan.function) % 2 == 0 {
+        return CALL_NOT_HAD;
+    }
+    what
 }
 
-// Whether the caller is known, and the function called, and the caller has not that function.
-fn lacks_call(plan: Plan) -> bool
-    ensures { λ r. ⌜ r ≡ lacksCall plan ⌝ }
-{
-    let home = set_at(plan, steps::CALLER, HOME);
-    let modes = set_at(plan, steps::CALLER, plan.function);
-    0 < home && (0 < plan.function && modes % 2 == 0)
-}
-
-// Something that is planned, and what may come next; or the mistake that the call cannot be made.
-fn planning(r: Reading, plan: Plan, context: u8) -> Reading
-    ensures { λ next. ⌜ next ≡ planning r plan context ⌝ }
-{
-    if lacks_call(plan) {
-        return mistaken(r, CALL_NOT_HAD);
-    }
-    let mut next = r;
-    next.plan = plan;
-    next.context = context;
-    next
-}
-
-fn name_call(r: Reading, function: u8) -> Reading
-    ensures { λ next. ⌜ next ≡ nameCall r function ⌝ }
+// A call with this function and Te, and what may come next; or the mistake that it cannot be made.
+fn planning(r: Reading, function: u8, te: u16, context: u8) -> Reading
+    ensures { λ next. ⌜ next ≡ planning r function te context ⌝ }
 {
     let mut plan = r.plan;
     plan.function = function;
-    planning(r, plan, DONE)
+    plan.te = te;
+    Reading {
+        plan: plan,
+        end: r.end,
+        function: r.function,
+        first: r.first,
+        context: context,
+        what: call_mistake(plan, r.what),
+    }
 }
 
-// A function where one is asked for: the home function, or the one called.
-fn function_word(r: Reading, function: u8) -> Reading
-    ensures { λ next. ⌜ next ≡ functionWord r function ⌝ }
+// A word that names something: what may come next and the kind of what it names decide.
+fn name_word(r: Reading, kind: u8, n: u8) -> Reading
+    ensures { λ next. ⌜ next ≡ nameWord r (record { kind = kind; number = n }) ⌝ }
 {
-    if r.context == AFTER_HOME {
-        return name_home(r, function);
-    }
-    if r.context == AFTER_CALL {
-        return name_call(r, function);
-    }
-    mistaken(r, r.context)
-}
-
-// A word that names something.
-fn name_word(r: Reading, m: Meaning) -> Reading
-    ensures { λ next. ⌜ next ≡ nameWord r m ⌝ }
-{
-    if r.context == IN_END {
-        return end_word(r, m);
-    }
-    if r.context == BEGIN {
-        return first_word(r, m);
-    }
-    if m.kind == names::FUNCTION {
-        return function_word(r, m.number);
-    }
-    if m.kind == names::WANTED {
-        if r.context == AFTER_WANTS {
-            return say(r, 0, m.number, 0);
+    let case = 256 * kind as u16 + r.context as u16;
+    match case {
+        FUNCTION_IN_END => say(r, n, 0, n, first_of(r.first, n)),
+        MODE_IN_END | OTHER_MODE_IN_END => {
+            if r.function == 0 {
+                return going(r, r.context, MODE_FIRST);
+            }
+            say(r, r.function, n, r.function, r.first)
         }
-        return mistaken(r, r.context);
-    }
-    if m.kind == names::END {
-        if r.context == AFTER_DAMAGED {
-            return begin_line(r, m.number, FIRST_BIT);
+        QUALITY_IN_END | WANTED_AFTER_WANTS => say(r, 0, n, 0, r.first),
+        PART_IN_END => going(r, n, r.what),
+        END_AT_BEGIN => begin_named(r, n, n, IN_END),
+        LINE_AT_BEGIN => begin_named(r, n, 0, n),
+        FUNCTION_AFTER_HOME => {
+            if 0 < set_at(r.plan, r.end, HOME) {
+                return going(r, r.context, TWICE);
+            }
+            store(r, HOME, n as u16, 0, r.first)
         }
-        return mistaken(r, r.context);
+        FUNCTION_AFTER_CALL => planning(r, n, r.plan.te, DONE),
+        END_AFTER_DAMAGED => begin_named(r, AFTER_DAMAGED, n, FIRST_BIT),
+        _ => going(r, r.context, r.context),
     }
-    mistaken(r, r.context)
 }
 
-fn te_word(r: Reading, te: u32) -> Reading
-    ensures { λ next. ⌜ next ≡ teWord r te ⌝ }
+// A number where one is asked for: Te, or the time of a bit.
+fn number_word(r: Reading, n: u32) -> Reading
+    ensures { λ next. ⌜ next ≡ when (eqb (r .context) afterTe) (teWord r n) (bitWord r n) ⌝ }
 {
-    if steps::is_te(te) {
-        let mut plan = r.plan;
-        plan.te = te as u16;
-        return planning(r, plan, DONE);
+    if r.context == AFTER_TE {
+        if steps::is_te(n) {
+            return planning(r, r.plan.function, n as u16, DONE);
+        }
+        return going(r, r.context, AFTER_TE);
     }
-    mistaken(r, AFTER_TE)
+    if 8999 < n {
+        return going(r, r.context, r.context);
+    }
+    going(r, BITS, r.what)
 }
 
-fn bit_word(r: Reading, time: u32) -> Reading
-    ensures { λ next. ⌜ next ≡ bitWord r time ⌝ }
+fn is_at_bits(context: u8) -> bool
+    ensures { λ r. ⌜ r ≡ either (eqb context firstBit) (eqb context bits) ⌝ }
 {
-    if 8999 < time {
-        return mistaken(r, r.context);
+    match context {
+        FIRST_BIT => true,
+        BITS => true,
+        _ => false,
     }
-    going(r, BITS)
-}
-
-fn is_at_bits(r: Reading) -> bool
-    ensures { λ next. ⌜ next ≡ atBits r ⌝ }
-{
-    r.context == FIRST_BIT || r.context == BITS
 }
 
 fn read_word(r: Reading, word: &[u8]) -> Reading
     ensures { λ next. ⌜ next ≡ readWord r (now (word .entry)) ⌝ }
 {
-    if r.context == AFTER_TE {
-        return te_word(r, number(word));
+    let context = r.context;
+    match context {
+        AFTER_TE | FIRST_BIT => number_word(r, number(word)),
+        BITS => number_word(r, number(word)),
+        _ => {
+            let m = names::named(word);
+            name_word(r, m.kind, m.number)
+        }
     }
-    if is_at_bits(r) {
-        return bit_word(r, number(word));
-    }
-    name_word(r, names::named(word))
 }
 
-// What a set of a function's modes says of it.
-fn modes_of(set: u16) -> Modes
-    ensures { λ r. ⌜ r ≡ modesOf set ⌝ }
+// What is said of one of an end's functions.
+fn modes_at(plan: Plan, end: u8, k: u8) -> Modes
+    ensures { λ r. ⌜ r ≡ modesOf (setAt plan end k) ⌝ }
 {
+    let set = set_at(plan, end, k);
     Modes {
         available: (set % 2) as u8,
         pcm: (set / 8192) as u8,
         items: set % 8192 / 2 * 2,
     }
+}
+
+// What is said of each of an end's functions.
+fn functions_of(plan: Plan, end: u8) -> [Modes; 6]
+    ensures { λ r. ⌜ r ≡ recordOf plan end .functions ⌝ }
+{
+    [
+        modes_at(plan, end, 1),
+        modes_at(plan, end, 2),
+        modes_at(plan, end, 3),
+        modes_at(plan, end, 4),
+        modes_at(plan, end, 5),
+        modes_at(plan, end, 6),
+    ]
 }
 
 // The record of an end.
@@ -472,37 +469,13 @@ pub fn record_of(plan: Plan, end: u8) -> Record
 {
     let said = set_at(plan, end, 0);
     Record {
-        functions: [
-            modes_of(set_at(plan, end, 1)),
-            modes_of(set_at(plan, end, 2)),
-            modes_of(set_at(plan, end, 3)),
-            modes_of(set_at(plan, end, 4)),
-            modes_of(set_at(plan, end, 5)),
-            modes_of(set_at(plan, end, 6)),
-        ],
+        functions: functions_of(plan, end),
         home: (set_at(plan, end, HOME) % 8) as u8,
         lapm: (said % 2) as u8,
         access: (said / 2 % 2) as u8,
         cellular: (said / 4 % 2) as u8,
         digital: (said / 8 % 2) as u8,
     }
-}
-
-// What is wrong with a record, or 0.
-fn record_mistake(own: Record) -> u8
-    ensures { λ r. ⌜ r ≡ recordMistake own ⌝ }
-{
-    let home = records::in_use(own, own.home);
-    if own.home == 0 {
-        return NO_FUNCTION;
-    }
-    if home.available != 1 {
-        return HOME_NOT_HAD;
-    }
-    if records::bad(own) {
-        return PCM_ALONE;
-    }
-    0
 }
 
 // The first function that an end's line names is the home function where no other is.
@@ -512,7 +485,25 @@ fn with_home(r: Reading) -> Reading
     if 0 < set_at(r.plan, r.end, HOME) {
         return r;
     }
-    store(r, HOME, r.first as u16, 0)
+    store(r, HOME, r.first as u16, 0, r.first)
+}
+
+// What is wrong with the record of an end, or 0.
+fn record_mistake(plan: Plan, end: u8) -> u8
+    ensures { λ r. ⌜ r ≡ recordMistake (recordOf plan end) ⌝ }
+{
+    let own = record_of(plan, end);
+    if own.home == 0 {
+        return NO_FUNCTION;
+    }
+    let home = records::in_use(own, own.home);
+    if home.available != 1 {
+        return HOME_NOT_HAD;
+    }
+    if records::bad(own) {
+        return PCM_ALONE;
+    }
+    0
 }
 
 // The end of an end's line.
@@ -520,93 +511,50 @@ fn finish_end(r: Reading) -> Reading
     ensures { λ next. ⌜ next ≡ finishEnd r ⌝ }
 {
     let line = with_home(r);
-    let wrong = record_mistake(record_of(line.plan, line.end));
+    let wrong = record_mistake(line.plan, line.end);
     if wrong != 0 {
-        return mistaken(line, wrong);
+        return going(line, line.context, wrong);
     }
-    planning(line, line.plan, BEGIN)
-}
-
-// Whether a line may end where this may come next.
-fn may_end(context: u8) -> bool
-    ensures { λ r. ⌜ r ≡ mayEnd context ⌝ }
-{
-    context == BEGIN || (context == BITS || context == DONE)
+    planning(line, line.plan.function, line.plan.te, BEGIN)
 }
 
 // The end of a line.
 fn finish_line(r: Reading) -> Reading
     ensures { λ next. ⌜ next ≡ finishLine r ⌝ }
 {
-    if r.context == IN_END {
-        return finish_end(r);
+    let context = r.context;
+    match context {
+        IN_END => finish_end(r),
+        BEGIN | DONE => going(r, BEGIN, r.what),
+        BITS => going(r, BEGIN, r.what),
+        _ => going(r, context, context),
     }
-    if may_end(r.context) {
-        return going(r, BEGIN);
-    }
-    mistaken(r, r.context)
 }
 
-// Where the byte behind a byte stands.
-fn scan_after(scan: u8, b: u8) -> u8
-    ensures { λ r. ⌜ r ≡ scanAfter scan b ⌝ }
+// What a byte of a text does: the end of a line, a word, or nothing.
+fn read_byte(r: Reading, scan: u8, text: &[u8], i: usize) -> Reading
+    requires { ⌜ i < length (now text) ⌝ }
+    ensures { λ next. ⌜ next ≡ readByte r scan (getD (now (text .entry)) i 0) (drop (i + 1) (now (text .entry))) ⌝ }
 {
-    if b == LINE_FEED {
-        return BETWEEN;
-    }
-    if scan == IN_COMMENT {
-        return IN_COMMENT;
-    }
-    if b == COMMENT {
-        return IN_COMMENT;
-    }
-    if is_blank(b) {
-        return BETWEEN;
-    }
-    IN_WORD
-}
-
-// Whether a byte begins a word.
-fn begins_word(scan: u8, b: u8) -> bool
-    ensures { λ r. ⌜ r ≡ beginsWord scan b ⌝ }
-{
-    if ends_word(b) {
-        return false;
-    }
-    scan == BETWEEN
-}
-
-// What a byte at the front of the rest of a text does: the end of a line, a word, or nothing.
-fn read_byte(r: Reading, scan: u8, rest: &[u8]) -> Reading
-    requires { ⌜ 0 < length (now rest) ⌝ }
-    ensures { λ next. ⌜ next ≡ readByte r scan (getD (now (rest .entry)) 0 0) (drop 1 (now (rest .entry))) ⌝ }
-{
-    let b = rest[0];
+    let b = text[i];
     if b == LINE_FEED {
         return finish_line(r);
     }
     if begins_word(scan, b) {
-        let len = word_length(rest);
-        return read_word(r, &rest[..len]);
+        return read_word(r, word_at(text, i));
     }
     r
-}
-
-fn no_plan() -> Plan
-    ensures { λ r. ⌜ r ≡ noPlan ⌝ }
-{
-    Plan {
-        sets: [0u16; 16],
-        function: 0,
-        te: 0,
-    }
 }
 
 fn begin() -> Reading
     ensures { λ r. ⌜ r ≡ fresh ⌝ }
 {
     Reading {
-        plan: no_plan(),
+        plan: Plan {
+            sets: [0u16; 16],
+            function: 0,
+            te: 0,
+        },
         end: 0,
         function: 0,
         first: 0,
@@ -619,19 +567,36 @@ fn mistake(what: u8, at: usize) -> Answer
     ensures { λ r. ⌜ r ≡ answer noPlan what at ⌝ }
 {
     Answer {
-        plan: no_plan(),
+        plan: Plan {
+            sets: [0u16; 16],
+            function: 0,
+            te: 0,
+        },
         what: what,
         at: at,
     }
 }
 
-// What a text lacks that was read to its end, or 0.
-fn missing(plan: Plan) -> u8
-    ensures { λ r. ⌜ r ≡ missing plan ⌝ }
+// Te of a plan that gives none is that of a start without a value.
+fn te_of(te: u16) -> u16
+    ensures { λ r. ⌜ r ≡ when (eqb te 0) defaultTe te ⌝ }
 {
-    if is_said(plan, steps::CALLER) {
-        if is_said(plan, steps::ANSWERER) {
-            if is_said(plan, AFTER_CALL) {
+    if te == 0 {
+        return DEFAULT_TE;
+    }
+    te
+}
+
+// The mistake of a text that was read to its end, or what it lacks, or 0.
+fn lacking(r: Reading) -> u8
+    ensures { λ what. ⌜ what ≡ lacking r ⌝ }
+{
+    if r.what != 0 {
+        return r.what;
+    }
+    if is_said(r.plan, steps::CALLER) {
+        if is_said(r.plan, steps::ANSWERER) {
+            if is_said(r.plan, AFTER_CALL) {
                 return 0;
             }
             return NO_CALL;
@@ -641,34 +606,19 @@ fn missing(plan: Plan) -> u8
     NO_CALLER
 }
 
-// A plan that gives no Te has that of a start without a value.
-fn with_default(plan: Plan) -> Plan
-    ensures { λ r. ⌜ r ≡ withDefault plan ⌝ }
-{
-    let session = steps::start_caller_default(0);
-    let mut next = plan;
-    if plan.te == 0 {
-        next.te = session.te as u16;
-        return next;
-    }
-    next
-}
-
 // A text that was read to its end: its last line, then what is missing.
 fn finish(r: Reading, at: usize) -> Answer
     ensures { λ next. ⌜ next ≡ finished r at ⌝ }
 {
     let last = finish_line(r);
-    let plan = last.plan;
-    if last.what != 0 {
-        return mistake(last.what, at);
-    }
-    let what = missing(plan);
+    let what = lacking(last);
     if what != 0 {
         return mistake(what, at);
     }
+    let mut plan = last.plan;
+    plan.te = te_of(plan.te);
     Answer {
-        plan: with_default(plan),
+        plan: plan,
         what: 0,
         at: at,
     }
@@ -682,7 +632,7 @@ pub fn read(text: &[u8]) -> Answer
     let mut scan = BETWEEN;
     let mut i: usize = 0;
     while i < text.len() {
-        r = read_byte(r, scan, &text[i..]);
+        r = read_byte(r, scan, text, i);
         if r.what != 0 {
             return mistake(r.what, i);
         }
@@ -702,11 +652,18 @@ pub fn bit_place(end: u8, time: u32) -> usize
     BIT_TIMES + time as usize
 }
 
-// Whether a damaged bit stands at a byte.
-fn is_bit(r: Reading, scan: u8, b: u8) -> bool
-    ensures { λ is. ⌜ is ≡ isBit r scan b ⌝ }
+// The place of a damaged bit, where one stands at a byte of a text.
+fn bit_at(r: Reading, scan: u8, text: &[u8], i: usize) -> usize
+    requires { ⌜ i < length (now text) ⌝ }
+    ensures { λ at. ⌜ at ≡ bitAt r scan (getD (now (text .entry)) i 0) (drop (i + 1) (now (text .entry))) ⌝ }
 {
-    begins_word(scan, b) && is_at_bits(r)
+    if is_at_bits(r.context) {
+        if begins_word(scan, text[i]) {
+            return bit_place(r.end, number(word_at(text, i)));
+        }
+        return NOWHERE;
+    }
+    NOWHERE
 }
 
 // Marks a place, where there is one.
@@ -718,38 +675,22 @@ fn mark_at(damaged: &mut [u8], at: usize)
     }
 }
 
-// Marks a damaged bit, where the rest of a text begins with one.
-fn mark_bit(r: Reading, scan: u8, rest: &[u8], damaged: &mut [u8])
-    requires { ⌜ 0 < length (now rest) ⌝ }
-    ensures { λ u. ⌜ now (damaged .exit) ≡ markedBit r scan (getD (now (rest .entry)) 0 0) (drop 1 (now (rest .entry))) (now (damaged .entry)) ⌝ }
-{
-    if is_bit(r, scan, rest[0]) {
-        let len = word_length(rest);
-        mark_at(damaged, bit_place(r.end, number(&rest[..len])));
-    }
-}
-
-fn mark_all(text: &[u8], damaged: &mut [u8])
-    ensures { λ u. ⌜ now (damaged .exit) ≡ markedFrom fresh between (now (text .entry)) (now (damaged .entry)) ⌝ }
-{
-    let mut r = begin();
-    let mut scan = BETWEEN;
-    let mut i: usize = 0;
-    while i < text.len() {
-        mark_bit(r, scan, &text[i..], damaged);
-        r = read_byte(r, scan, &text[i..]);
-        scan = scan_after(scan, text[i]);
-        i += 1;
-    }
-}
-
 // Marks the damaged bits of a text that is a plan with 1, at their places; those that have no place there are left out.
 pub fn mark(text: &[u8], damaged: &mut [u8])
     ensures { λ u. ⌜ now (damaged .exit) ≡ marked (now (text .entry)) (now (damaged .entry)) ⌝ }
 {
     let plan = read(text);
-    if plan.what == 0 {
-        mark_all(text, damaged);
+    if plan.what != 0 {
+        return;
+    }
+    let mut r = begin();
+    let mut scan = BETWEEN;
+    let mut i: usize = 0;
+    while i < text.len() {
+        mark_at(damaged, bit_at(r, scan, text, i));
+        r = read_byte(r, scan, text, i);
+        scan = scan_after(scan, text[i]);
+        i += 1;
     }
 }
 
@@ -778,148 +719,240 @@ pub fn lines_before(text: &[u8], at: usize) -> usize
     lines
 }
 
-// The word at a place, of the text itself; empty where there is none.
-pub fn word_at(text: &[u8], at: usize) -> &[u8]
-    ensures { λ r. ⌜ now r ≡ wordAt (now (text .entry)) at ⌝ }
-{
-    if at < text.len() {
-        let rest = &text[at..];
-        let len = word_length(rest);
-        return &rest[..len];
-    }
-    &text[0..0]
+// What the plain form has beside names and numbers: the fronts of its lines, and what an end wants, so that each of these, with a comma
+// behind it or without, and a comma alone are a part.
+const TEXTS: [u8; 68] =
+    *b"\ncaller   \nanswerer \ncall     \nTe        , wants LAPM, wants access,";
+
+// Where the parts of it begin: behind the first line feed the caller's front, the other fronts, what is wanted, which begins with a
+// comma; and where that ends.
+const CALLER_FRONT: usize = 1;
+
+const ANSWERER_FRONT: usize = 10;
+
+const CALL_FRONT: usize = 20;
+
+const TE_FRONT: usize = 30;
+
+const LAPM_WANTED: usize = 41;
+
+const BEHIND_COMMA: usize = 42;
+
+const ACCESS_WANTED: usize = 53;
+
+const NO_MORE_WANTED: usize = 67;
+
+// The set that holds the name 'home' alone.
+const HOME_NAMED: u16 = 8;
+
+// The fronts of lines for damaged bits, with the blank that stands before each bit; where the blanks stand, and the second front.
+const FRONTS: [u8; 38] = *b"\ndamaged   caller \ndamaged   answerer ";
+
+const CALLER_BLANK: usize = 17;
+
+const ANSWERER_LINES: usize = 18;
+
+const ANSWERER_BLANK: usize = 37;
+
+// How many pieces the plain form has beside Te and damaged bits, which stand before the last.
+const LAST_PIECE: u8 = 18;
+
+const PIECES: u8 = 19;
+
+// A piece of the plain form: the names of a kind whose numbers are in a set, after them more of another kind, and a part of TEXTS.
+struct Piece {
+    kind: u8,
+    set: u16,
+    after: u8,
+    more: u16,
+    from: usize,
+    to: usize,
 }
 
 // A function that an end has, with its modes, as its line names them.
-fn put_function(out: &mut [u8], at: usize, function: u8, set: u16) -> usize
-    ensures { λ r. ⌜ page (now (out .exit)) r ≡ typed (page (now (out .entry)) at) (functionText function set) ⌝ }
+fn function_piece(function: u8, set: u16) -> Piece
+    ensures { λ r. ⌜ Writes r (functionText function set) ⌝ }
 {
     if set % 2 == 1 {
-        let n = names::put_names(out, at, names::FUNCTION, added(0, function));
-        let m = names::put_names(out, n, names::MODE, set);
-        return printing::put_text(out, m, b",");
+        return Piece {
+            kind: names::FUNCTION,
+            set: added(0, function),
+            after: names::MODE,
+            more: set,
+            from: LAPM_WANTED,
+            to: BEHIND_COMMA,
+        };
     }
-    at
+    Piece {
+        kind: names::NOTHING,
+        set: 0,
+        after: names::NOTHING,
+        more: 0,
+        from: 0,
+        to: 0,
+    }
 }
 
-fn put_functions(out: &mut [u8], at: usize, plan: Plan, end: u8) -> usize
-    ensures { λ r. ⌜ page (now (out .exit)) r ≡ typed (page (now (out .entry)) at) (functionsText plan end 1 6) ⌝ }
+// The home function, what the end wants, and a comma where something is said of its line.
+fn home_piece(home: u16, said: u16) -> Piece
+    ensures { λ r. ⌜ Writes r (homeText home said) ⌝ }
+{
+    let comma = (0 < said / 4 % 4) as usize;
+    let wanted = said % 4;
+    let mut piece = Piece {
+        kind: names::PART,
+        set: HOME_NAMED,
+        after: names::FUNCTION,
+        more: added(0, (home % 8) as u8),
+        from: LAPM_WANTED,
+        to: NO_MORE_WANTED + comma,
+    };
+    match wanted {
+        0 => {
+            piece.to = LAPM_WANTED + comma;
+            piece
+        }
+        1 => {
+            piece.to = ACCESS_WANTED + comma;
+            piece
+        }
+        2 => {
+            piece.from = ACCESS_WANTED;
+            piece
+        }
+        _ => piece,
+    }
+}
+
+// The pieces, with the line feed behind all of them as the last: of each end its functions, its home function, what its line is.
+fn piece_at(plan: Plan, i: u8) -> Piece
+    requires { ⌜ i < 19 ⌝ }
+    ensures { λ r. ⌜ Writes r (pieceText plan i) ⌝ }
+{
+    let set = set_at(plan, (i + 7) / 8, i);
+    match i {
+        0 => Piece {
+            kind: names::NOTHING,
+            set: 0,
+            after: names::NOTHING,
+            more: 0,
+            from: CALLER_FRONT,
+            to: ANSWERER_FRONT,
+        },
+        7 => home_piece(set, set_at(plan, steps::CALLER, 0)),
+        8 => Piece {
+            kind: names::QUALITY,
+            set: set,
+            after: names::NOTHING,
+            more: 0,
+            from: ANSWERER_FRONT,
+            to: CALL_FRONT,
+        },
+        15 => home_piece(set, set_at(plan, steps::ANSWERER, 0)),
+        16 => Piece {
+            kind: names::QUALITY,
+            set: set,
+            after: names::NOTHING,
+            more: 0,
+            from: CALL_FRONT,
+            to: TE_FRONT,
+        },
+        17 => Piece {
+            kind: names::FUNCTION,
+            set: added(0, plan.function),
+            after: names::NOTHING,
+            more: 0,
+            from: TE_FRONT,
+            to: LAPM_WANTED,
+        },
+        18 => Piece {
+            kind: names::NOTHING,
+            set: 0,
+            after: names::NOTHING,
+            more: 0,
+            from: 0,
+            to: CALLER_FRONT,
+        },
+        _ => function_piece(i % 8, set),
+    }
+}
+
+// The pieces from one to another.
+fn put_pieces(out: &mut [u8], at: usize, plan: Plan, first: u8, last: u8) -> usize
+    requires { ⌜ last ≤ 19 ⌝ }
+    ensures { λ r. ⌜ page (now (out .exit)) r ≡ typed (page (now (out .entry)) at) (piecesText plan first (last - first)) ⌝ }
 {
     let mut n = at;
-    let mut function: u8 = 1;
-    while function < 7 {
-        n = put_function(out, n, function, set_at(plan, end, function));
-        function += 1;
-    }
-    n
-}
-
-// A text, where it is to be there.
-fn put_if(out: &mut [u8], at: usize, there: bool, text: &[u8]) -> usize
-    ensures { λ r. ⌜ page (now (out .exit)) r ≡ typed (page (now (out .entry)) at) (when there (now (text .entry)) []) ⌝ }
-{
-    if there {
-        return printing::put_text(out, at, text);
-    }
-    at
-}
-
-// What an end wants, and what its line is.
-fn put_wants(out: &mut [u8], at: usize, said: u16) -> usize
-    ensures { λ r. ⌜ page (now (out .exit)) r ≡ typed (page (now (out .entry)) at) (wantsText said) ⌝ }
-{
-    let n = put_if(out, at, said % 2 == 1, b", wants LAPM");
-    let m = put_if(out, n, said / 2 % 2 == 1, b", wants access");
-    let k = put_if(out, m, 0 < said / 4 % 4, b",");
-    names::put_names(out, k, names::QUALITY, said)
-}
-
-// A text, and the name of a function behind it.
-fn put_named(out: &mut [u8], at: usize, text: &[u8], function: u8) -> usize
-    ensures { λ r. ⌜ page (now (out .exit)) r ≡ typed (page (now (out .entry)) at) (now (text .entry) ++ functionName function) ⌝ }
-{
-    let n = printing::put_text(out, at, text);
-    names::put_names(out, n, names::FUNCTION, added(0, function))
-}
-
-// The line of an end: its name, then what is said of it.
-fn put_end(out: &mut [u8], at: usize, name: &[u8], plan: Plan, end: u8) -> usize
-    ensures { λ r. ⌜ page (now (out .exit)) r ≡ typed (page (now (out .entry)) at) (endText (now (name .entry)) plan end) ⌝ }
-{
-    let n = printing::put_text(out, at, name);
-    let m = put_functions(out, n, plan, end);
-    let k = put_named(out, m, b" home", (set_at(plan, end, HOME) % 8) as u8);
-    put_wants(out, k, set_at(plan, end, 0))
-}
-
-// A bit, where it is damaged; in a new line where those before it fill theirs.
-fn put_bit(
-    out: &mut [u8],
-    at: usize,
-    front: &[u8],
-    count: usize,
-    time: usize,
-    damaged: bool,
-) -> usize
-    requires { ⌜ time < 9000 ⌝ }
-    ensures { λ r. ⌜ page (now (out .exit)) r ≡ typed (page (now (out .entry)) at) (when damaged (bitText (now (front .entry)) count time) []) ⌝ }
-{
-    if damaged {
-        let n = put_if(out, at, count % BITS_A_LINE == 0, front);
-        let m = printing::put_text(out, n, b" ");
-        return printing::put_decimal(out, m, time as u64);
-    }
-    at
-}
-
-// The damaged bits of an end, in lines with this front.
-fn put_bits(out: &mut [u8], at: usize, front: &[u8], bits: &[u8]) -> usize
-    requires { ⌜ length (now bits) ≤ 9000 ⌝ }
-    ensures { λ r. ⌜ page (now (out .exit)) r ≡ typed (page (now (out .entry)) at) (bitsText (now (front .entry)) 0 0 (now (bits .entry))) ⌝ }
-{
-    let mut n = at;
-    let mut count: usize = 0;
-    let mut i: usize = 0;
-    while i < bits.len() {
-        n = put_bit(out, n, front, count, i, bits[i] == 1);
-        count += one_if(bits[i] == 1);
+    let mut i = first;
+    while i < last {
+        let p = piece_at(plan, i);
+        let from = p.from;
+        let to = p.to;
+        n = names::put_names(out, n, p.kind, p.set);
+        n = names::put_names(out, n, p.after, p.more);
+        n = printing::put_text(out, n, &TEXTS[from..to]);
         i += 1;
     }
     n
 }
 
-// The damaged bits of both ends.
-fn put_damage(out: &mut [u8], at: usize, damaged: &[u8]) -> usize
-    ensures { λ r. ⌜ page (now (out .exit)) r ≡ typed (page (now (out .entry)) at) (damageText (now (damaged .entry))) ⌝ }
+// Where the text before a bit begins: at the front of its line where those before it fill theirs, otherwise at the blank.
+fn front_of(front: usize, blank: usize, count: usize) -> usize
+    ensures { λ r. ⌜ r ≡ when (eqb (count % 16) 0) front blank ⌝ }
 {
-    if damaged.len() < 2 * BIT_TIMES {
-        return at;
+    if count % BITS_A_LINE == 0 {
+        return front;
     }
-    let n = put_bits(out, at, b"\ndamaged   caller", &damaged[..BIT_TIMES]);
-    put_bits(
-        out,
-        n,
-        b"\ndamaged   answerer",
-        &damaged[BIT_TIMES..2 * BIT_TIMES],
-    )
+    blank
 }
 
-// The function called, and Te.
-fn put_call(out: &mut [u8], at: usize, function: u8, te: u16) -> usize
-    ensures { λ r. ⌜ page (now (out .exit)) r ≡ typed (page (now (out .entry)) at) (callText function te) ⌝ }
+// The damaged bits of an end from a place on, so many of them; in each line sixteen, behind its front.
+fn put_bits(
+    out: &mut [u8],
+    at: usize,
+    front: usize,
+    blank: usize,
+    damaged: &[u8],
+    start: usize,
+    times: usize,
+) -> usize
+    requires { ⌜ Front front blank ⌝ }
+    requires { ⌜ times ≤ 9000 ⌝ }
+    requires { ⌜ start + times ≤ length (now damaged) ⌝ }
+    ensures { λ r. ⌜ page (now (out .exit)) r ≡ typed (page (now (out .entry)) at) (bitsText (frontText front blank) 0 0 (take times (drop start (now (damaged .entry))))) ⌝ }
 {
-    let n = put_named(out, at, b"\ncall     ", function);
-    let m = printing::put_text(out, n, b"\nTe        ");
-    printing::put_decimal(out, m, te as u64)
+    let end = blank + 1;
+    let mut n = at;
+    let mut count: usize = 0;
+    let mut i: usize = 0;
+    while i < times {
+        if damaged[start + i] == 1 {
+            let from = front_of(front, blank, count);
+            n = printing::put_text(out, n, &FRONTS[from..end]);
+            n = printing::put_decimal(out, n, i as u64);
+            count += 1;
+        }
+        i += 1;
+    }
+    n
 }
 
 // A plan in its plain form: a text that is read as this plan, with every default written out.
 pub fn put_plan(out: &mut [u8], at: usize, plan: Plan, damaged: &[u8]) -> usize
     ensures { λ r. ⌜ page (now (out .exit)) r ≡ typed (page (now (out .entry)) at) (plain plan (now (damaged .entry))) ⌝ }
 {
-    let n = put_end(out, at, b"caller   ", plan, steps::CALLER);
-    let m = put_end(out, n, b"\nanswerer ", plan, steps::ANSWERER);
-    let k = put_call(out, m, plan.function, plan.te);
-    let j = put_damage(out, k, damaged);
-    printing::put_text(out, j, b"\n")
+    let times = BIT_TIMES * (BITS_OF_BOTH <= damaged.len()) as usize;
+    let mut n = put_pieces(out, at, plan, 0, LAST_PIECE);
+    n = printing::put_decimal(out, n, plan.te as u64);
+    n = put_bits(out, n, 0, CALLER_BLANK, damaged, 0, times);
+    n = put_bits(
+        out,
+        n,
+        ANSWERER_LINES,
+        ANSWERER_BLANK,
+        damaged,
+        times,
+        times,
+    );
+    put_pieces(out, n, plan, LAST_PIECE, PIECES)
 }

@@ -1,85 +1,136 @@
--- `plans::name_word` meets its contract: what may come next decides, then the kind of what the word names.
+-- `plans::name_word` meets its contract: what may come next and the kind of what the word names decide.
 -- Assumes nothing.
-use borrow.Author.Tests.{eq-eqb, ne-eqb}
 use borrow.Author.Needs.{needs}
-use Rattle.laws.specs.Logic.{when}
-use Rattle.plans.specs.Reading.{nameWord}
+use Prim.Native.Nat.{_<_}
+use mathlib.Core.Path.{sym, _∙_}
+use Rattle.names.specs.declared.Meaning.{Meaning}
+use Rattle.plans.proofs.Cases.{function-in-end, mode-first, mode-said, said, part-in-end, end-at-begin, line-at-begin, home-twice, home-said, function-after-call, end-after-damaged, otherwise}
 use Rattle.plans.proofs.name_word.Statement.{statement}
 use Rattle.plans.proofs.name_word.Tie as tie
 
-end-word-requires : tie.Need-end-word-requires
-end-word-requires c κs = search needs
+small : (start : tie.Start) → start .args .r .context < 256
+small start = search needs
 
-returns : tie.Need-returns
-unfolding when nameWord
-returns c = simp (c .end-word .ensures, eq-eqb _ _ (c .before .if1 .taken))
+abbrev meant : tie.Start → Meaning
+meant start = record { kind = start .args .kind; number = start .args .n }
 
-first-word-requires : tie.Need-first-word-requires
-first-word-requires c κs = search needs
+mul-case : tie.Need-mul-case
+mul-case c = search needs
 
-returns-2 : tie.Need-returns-2
-unfolding when nameWord
-returns-2 c = simp (c .first-word .ensures, eq-eqb _ _ (c .before .if2 .taken), ne-eqb _ _ (c .before .before .before .if1 .left))
+cast-case : tie.Need-cast-case
+cast-case c = search needs
 
-function-word-requires : tie.Need-function-word-requires
-function-word-requires c κs = search needs
+add-case : tie.Need-add-case
+add-case c = search needs
 
-returns-3 : tie.Need-returns-3
-unfolding when nameWord
-returns-3 c = simp (c .function-word .ensures, eq-eqb _ _ (c .before .if3 .taken), ne-eqb _ _ (c .before .before .before .if2 .left), ne-eqb _ _ (c .before .before .before .before .before .if1 .left))
+first-of-requires : tie.Need-first-of-requires
+first-of-requires c κs = search needs
 
 say-requires : tie.Need-say-requires
 say-requires c κs = search needs
 
-returns-4 : tie.Need-returns-4
-unfolding when nameWord
-returns-4 c = simp (c .say .ensures, eq-eqb _ _ (c .before .if5 .taken), eq-eqb _ _ (c .before .before .before .if4 .taken), ne-eqb _ _ (c .before .before .before .before .before .if3 .left), ne-eqb _ _ (c .before .before .before .before .before .before .before .if2 .left), ne-eqb _ _ (c .before .before .before .before .before .before .before .before .before .if1 .left))
+going-requires : tie.Need-going-requires
+going-requires c κs = search needs
 
-mistaken-requires : tie.Need-mistaken-requires
-mistaken-requires c κs = search needs
+returns : tie.Need-returns
+returns c = c .going .ensures ∙ sym (mode-first (c .before .before .before .before .before .args .r) (meant (c .before .before .before .before .before)) (small (c .before .before .before .before .before)) (c .before .before .before .match .keys2) (c .before .if1 .taken))
+
+say-requires-2 : tie.Need-say-requires-2
+say-requires-2 c κs = search needs
+
+say-requires-3 : tie.Need-say-requires-3
+say-requires-3 c κs = search needs
+
+going-requires-2 : tie.Need-going-requires-2
+going-requires-2 c κs = search needs
+
+begin-named-requires : tie.Need-begin-named-requires
+begin-named-requires c κs = search needs
+
+begin-named-requires-2 : tie.Need-begin-named-requires-2
+begin-named-requires-2 c κs = search needs
+
+set-at-requires : tie.Need-set-at-requires
+set-at-requires c κs = search needs
+
+going-requires-3 : tie.Need-going-requires-3
+going-requires-3 c κs = search needs
+
+returns-2 : tie.Need-returns-2
+returns-2 c = c .going3 .ensures ∙ sym (home-twice (c .before .before .before .before .before .args .r) (meant (c .before .before .before .before .before)) (small (c .before .before .before .before .before)) (c .before .before .before .match .keys7) _ (c .before .before .set-at .ensures) (c .before .if2 .taken))
+
+store-requires : tie.Need-store-requires
+store-requires c κs = search needs
+
+planning-requires : tie.Need-planning-requires
+planning-requires c κs = search needs
+
+begin-named-requires-3 : tie.Need-begin-named-requires-3
+begin-named-requires-3 c κs = search needs
+
+going-requires-4 : tie.Need-going-requires-4
+going-requires-4 c κs = search needs
+
+returns-3 : tie.Need-returns-3
+returns-3 c = c .say .ensures ∙ sym (function-in-end (c .before .before .before .before .args .r) (meant (c .before .before .before .before)) (small (c .before .before .before .before)) (c .before .before .match .keys1) _ (c .before .first-of .ensures))
+
+returns-4 : tie.Need-returns-4
+returns-4 c = c .say2 .ensures ∙ sym (mode-said (c .before .before .before .before .before .args .r) (meant (c .before .before .before .before .before)) (small (c .before .before .before .before .before)) (c .before .before .before .match .keys2) (c .before .if1 .left))
 
 returns-5 : tie.Need-returns-5
-unfolding when nameWord
-returns-5 c = simp (c .mistaken .ensures, ne-eqb _ _ (c .before .if5 .left), eq-eqb _ _ (c .before .before .before .if4 .taken), ne-eqb _ _ (c .before .before .before .before .before .if3 .left), ne-eqb _ _ (c .before .before .before .before .before .before .before .if2 .left), ne-eqb _ _ (c .before .before .before .before .before .before .before .before .before .if1 .left))
-
-begin-line-requires : tie.Need-begin-line-requires
-begin-line-requires c κs = search needs
+returns-5 c = c .say3 .ensures ∙ sym (said (c .before .before .before .args .r) (meant (c .before .before .before)) (small (c .before .before .before)) (c .before .match .keys3))
 
 returns-6 : tie.Need-returns-6
-unfolding when nameWord
-returns-6 c = simp (c .begin-line .ensures, eq-eqb _ _ (c .before .if7 .taken), eq-eqb _ _ (c .before .before .before .if6 .taken), ne-eqb _ _ (c .before .before .before .before .before .if4 .left), ne-eqb _ _ (c .before .before .before .before .before .before .before .if3 .left), ne-eqb _ _ (c .before .before .before .before .before .before .before .before .before .if2 .left), ne-eqb _ _ (c .before .before .before .before .before .before .before .before .before .before .before .if1 .left))
-
-mistaken-requires-2 : tie.Need-mistaken-requires-2
-mistaken-requires-2 c κs = search needs
+returns-6 c = c .going2 .ensures ∙ sym (part-in-end (c .before .before .before .args .r) (meant (c .before .before .before)) (small (c .before .before .before)) (c .before .match .keys4))
 
 returns-7 : tie.Need-returns-7
-unfolding when nameWord
-returns-7 c = simp (c .mistaken2 .ensures, ne-eqb _ _ (c .before .if7 .left), eq-eqb _ _ (c .before .before .before .if6 .taken), ne-eqb _ _ (c .before .before .before .before .before .if4 .left), ne-eqb _ _ (c .before .before .before .before .before .before .before .if3 .left), ne-eqb _ _ (c .before .before .before .before .before .before .before .before .before .if2 .left), ne-eqb _ _ (c .before .before .before .before .before .before .before .before .before .before .before .if1 .left))
-
-mistaken-requires-3 : tie.Need-mistaken-requires-3
-mistaken-requires-3 c κs = search needs
+returns-7 c = c .begin-named .ensures ∙ sym (end-at-begin (c .before .before .before .args .r) (meant (c .before .before .before)) (small (c .before .before .before)) (c .before .match .keys5))
 
 returns-8 : tie.Need-returns-8
-unfolding when nameWord
-returns-8 c = simp (c .mistaken3 .ensures, ne-eqb _ _ (c .before .if6 .left), ne-eqb _ _ (c .before .before .before .if4 .left), ne-eqb _ _ (c .before .before .before .before .before .if3 .left), ne-eqb _ _ (c .before .before .before .before .before .before .before .if2 .left), ne-eqb _ _ (c .before .before .before .before .before .before .before .before .before .if1 .left))
+returns-8 c = c .begin-named2 .ensures ∙ sym (line-at-begin (c .before .before .before .args .r) (meant (c .before .before .before)) (small (c .before .before .before)) (c .before .match .keys6))
+
+returns-9 : tie.Need-returns-9
+returns-9 c = c .store .ensures ∙ sym (home-said (c .before .before .before .before .before .args .r) (meant (c .before .before .before .before .before)) (small (c .before .before .before .before .before)) (c .before .before .before .match .keys7) _ (c .before .before .set-at .ensures) (c .before .if2 .left))
+
+returns-10 : tie.Need-returns-10
+returns-10 c = c .planning .ensures ∙ sym (function-after-call (c .before .before .before .args .r) (meant (c .before .before .before)) (small (c .before .before .before)) (c .before .match .keys8))
+
+returns-11 : tie.Need-returns-11
+returns-11 c = c .begin-named3 .ensures ∙ sym (end-after-damaged (c .before .before .before .args .r) (meant (c .before .before .before)) (small (c .before .before .before)) (c .before .match .keys9))
+
+returns-12 : tie.Need-returns-12
+returns-12 c = let none = c .before .match .rest in c .going4 .ensures ∙ sym (otherwise (c .before .before .before .args .r) (meant (c .before .before .before)) (small (c .before .before .before)) (none .0 .0 .0 .0 .0 .0 .0 .0 .1) (none .0 .0 .0 .0 .0 .0 .0 .1) (none .0 .0 .0 .0 .0 .0 .1) (none .0 .0 .0 .0 .0 .1) (none .0 .0 .0 .0 .1) (none .0 .0 .0 .1) (none .0 .0 .1) (none .0 .1) (none .1))
 
 pub name-word-spec : {M : Type 1} → statement M
 name-word-spec =
     tie.close
     (tie.spec
-    end-word-requires
-    returns
-    first-word-requires
-    returns-2
-    function-word-requires
-    returns-3
+    mul-case
+    cast-case
+    add-case
+    first-of-requires
     say-requires
+    going-requires
+    returns
+    say-requires-2
+    say-requires-3
+    going-requires-2
+    begin-named-requires
+    begin-named-requires-2
+    set-at-requires
+    going-requires-3
+    returns-2
+    store-requires
+    planning-requires
+    begin-named-requires-3
+    going-requires-4
+    returns-3
     returns-4
-    mistaken-requires
     returns-5
-    begin-line-requires
     returns-6
-    mistaken-requires-2
     returns-7
-    mistaken-requires-3
-    returns-8)
+    returns-8
+    returns-9
+    returns-10
+    returns-11
+    returns-12)

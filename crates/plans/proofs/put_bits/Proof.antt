@@ -1,80 +1,110 @@
 -- `plans::put_bits` meets its contract. Invariant: the bits from place i on, typed from here, leave what all of them do.
 -- Assumes nothing.
 use borrow.Author.Needs.{needs}
-use Prim.Native.Nat.{ℕ, _+_, _-_, _≤_}
+use Prim.Native.Nat.{ℕ, _+_, _-_, _≤_, _<_}
 use native.Mathlib.Omega.{arith}
-use mathlib.Core.Path.{_≡_, refl, sym, ap, subst, _∙_}
-use lib.Dec.{eqb}
-use lib.ListN.{length, getD, drop}
+use mathlib.Core.Path.{_≡_, refl, sym, ap, ap₂, _∙_}
+use mathlib.Core.Logic.{⊎-elim}
+use lib.Dec.{lit≤}
+use lib.ListN.{length, take, drop}
 use mir.Facts.{fits-below}
 use denote.Ref.{now}
-use Rattle.laws.specs.Logic.{when}
 use Rattle.printing.specs.Page.{Page, page, typed}
+use Rattle.printing.proofs.Pages.{typed-then}
+use Rattle.names.specs.Bytes.{bytes}
 use Rattle.plans.specs.Plain.{bitsText}
-use Rattle.plans.proofs.Walk.{one-at-most}
-use Rattle.plans.proofs.Typing.{bits-on, bits-end}
+use Rattle.plans.specs.Inner.{fronts, frontText}
+use Rattle.plans.proofs.Numbers.{decimal-typed}
+use Rattle.plans.proofs.Typing.{bits-length, bit-there, bit-on, bit-off, bits-end}
+use Rattle.plans.proofs.Pieces.{from-within, front-there}
 use Rattle.plans.proofs.put_bits.Statement.{statement}
 use Rattle.plans.proofs.put_bits.Tie as tie
 
 abbrev Inv-loop : tie.InvT-loop
-Inv-loop out₀ at front bits n₀ count₀ i₀ out n count i = (typed (page out n) (bitsText front count i (drop i bits)) ≡ typed (page out₀ at) (bitsText front 0 0 bits)) × (count ≤ i) × (i ≤ length bits) × (length out ≡ length out₀)
+Inv-loop out₀ at front blank damaged start times fronts end n₀ count₀ i₀ out n count i = (typed (page out n) (bitsText (frontText front blank) count i (drop i (take times (drop start damaged)))) ≡ typed (page out₀ at) (bitsText (frontText front blank) 0 0 (take times (drop start damaged)))) × (count ≤ i) × (length out ≡ length out₀)
 
 abbrev μ-loop : tie.MeasureT-loop
-μ-loop out₀ at front bits n₀ count₀ i₀ out n count i = length bits - i
+μ-loop out₀ at front blank damaged start times fronts end n₀ count₀ i₀ out n count i = times - i
+
+add-end : tie.Need-add-end Inv-loop μ-loop
+add-end c = fits-below {n = 39} tt (omega (arith, c .before .before .pre .0 .within))
 
 loop-holds : tie.Need-loop-holds Inv-loop μ-loop
-loop-holds c = (refl, search needs, search needs, refl)
+loop-holds c = (refl, lit≤ tt, refl)
 
-shared-slice-read-put-bit : tie.Need-shared-slice-read-put-bit Inv-loop μ-loop
-shared-slice-read-put-bit c = search needs
+add-if1 : tie.Need-add-if1 Inv-loop μ-loop
+add-if1 c = search needs
 
-put-bit-requires : tie.Need-put-bit-requires Inv-loop μ-loop
-put-bit-requires c κs = search needs
+shared-slice-read-if1 : tie.Need-shared-slice-read-if1 Inv-loop μ-loop
+shared-slice-read-if1 c = omega (arith, c .before .loop-test .taken, c .before .before .before .before .before .pre .1 .1)
 
-shared-slice-read-one-if : tie.Need-shared-slice-read-one-if Inv-loop μ-loop
-shared-slice-read-one-if c = search needs
+front-of-requires : tie.Need-front-of-requires Inv-loop μ-loop
+front-of-requires c κs = tt
 
-one-if-requires : tie.Need-one-if-requires Inv-loop μ-loop
-one-if-requires c κs = search needs
+sub-put-text : tie.Need-sub-put-text Inv-loop μ-loop
+sub-put-text c = let at-loop = c .before .before .before .before .before in let start = at-loop .before .before .before in from-within (start .args .front) (start .args .blank) (start .pre .0) (at-loop .loop .count) _ (c .before .front-of .ensures)
+
+part-put-text-start : tie.Need-part-put-text-start Inv-loop μ-loop
+part-put-text-start c = let at-loop = c .before .before .before .before .before .before in let start = at-loop .before .before .before in from-within (start .args .front) (start .args .blank) (start .pre .0) (at-loop .loop .count) _ (c .before .before .front-of .ensures)
+
+part-put-text-end : tie.Need-part-put-text-end Inv-loop μ-loop
+part-put-text-end c = let start = c .before .before .before .before .before .before .before .before .before in omega (arith, start .pre .0 .within)
+
+put-text-requires : tie.Need-put-text-requires Inv-loop μ-loop
+put-text-requires c κs = tt
+
+put-decimal-requires : tie.Need-put-decimal-requires Inv-loop μ-loop
+put-decimal-requires c κs = tt
 
 add-count : tie.Need-add-count Inv-loop μ-loop
-add-count c =
-    let at-loop = c .before .before .before .before .before .before .before .before in
-    let one : c .one-if .result ≤ 1 = subst (λ (n : ℕ). n ≤ 1) (sym (c .one-if .ensures)) (one-at-most _) in
-    fits-below {n = 9001} tt (omega (arith, one, at-loop .loop .inv .1, at-loop .loop .inv .2, at-loop .before .before .before .before .pre))
+add-count c = let at-loop = c .before .before .before .before .before .before .before .before .before .before .before .before .before .before in fits-below {n = 9001} tt (omega (arith, at-loop .loop .inv .1, c .before .before .before .before .before .before .before .before .before .before .before .before .before .loop-test .taken, at-loop .before .before .before .pre .1 .0))
 
 add-i : tie.Need-add-i Inv-loop μ-loop
-add-i c = search needs
+add-i c = fits-below {n = 9001} tt (omega (arith, c .before .before .loop-test .taken, c .before .before .before .before .before .before .pre .1 .0))
 
 loop-less : tie.Need-loop-less Inv-loop μ-loop
-loop-less c = search needs
+loop-less c = omega (arith, c .before .before .loop-test .taken)
 
 loop-again : tie.Need-loop-again Inv-loop μ-loop
+unfolding fronts bytes
 loop-again c =
-    let at-loop = c .before .before .before .before .before .before .before .before in
-    let args = at-loop .before .before .before .before .args in
-    let front = now (args .front) in
-    let bits = now (args .bits) in
+    let at-loop = c .before .before .before in
+    let start = at-loop .before .before .before in
+    let args = start .args in
+    let here = page (at-loop .loop .out) (at-loop .loop .n) in
+    let front = frontText (args .front) (args .blank) in
+    let bits = take (args .times) (drop (args .start) (now (args .damaged))) in
     let i = at-loop .loop .i in
     let count = at-loop .loop .count in
-    let one : c .one-if .result ≤ 1 = subst (λ (n : ℕ). n ≤ 1) (sym (c .one-if .ensures)) (one-at-most _) in
-    let on = bits-on (page (at-loop .loop .out) (at-loop .loop .n)) front count bits i (search needs) in
-    let typed-bit = c .before .before .before .before .put-bit .ensures in (
-      ap (λ (n : ℕ). typed (page (c .before .before .before .before .put-bit .last .0) (c .before .before .before .before .put-bit .result)) (bitsText front (count + n) (i + 1) (drop (i + 1) bits))) (c .one-if .ensures)
-          ∙ ap (λ (p : Page). typed p (bitsText front (count + when (eqb (getD bits i 0) 1) 1 0) (i + 1) (drop (i + 1) bits))) typed-bit ∙ sym on ∙ at-loop .loop .inv .0,
-      omega (arith, one, at-loop .loop .inv .1),
-      search needs,
-      search needs,
-    )
+    let inside : i < length bits = omega (arith, bits-length (now (args .damaged)) (args .start) (args .times) i (start .pre .1 .1), c .before .before .loop-test .taken) in
+    let bit = bit-there (now (args .damaged)) (args .start) (args .times) i (start .pre .1 .1) (c .before .before .loop-test .taken) in
+    let from-here : Page → ℕ → Page = λ (p : Page) (n : ℕ). typed p (bitsText front n (i + 1) (drop (i + 1) bits)) in
+    ⊎-elim
+    (λ one. (
+      ap₂ from-here (ap₂ page (one .12) (one .13)
+          ∙ typed-then here _ _ (one .5 .ensures ∙ ap (typed here) (front-there (args .front) (args .blank) (start .pre .0) count _ (one .1 .ensures))) (decimal-typed _ _ i (omega (arith, c .before .before .loop-test .taken, start .pre .1 .0)) (one .9 .ensures))) (one .14)
+          ∙ sym (bit-on here front count bits i inside (bit ∙ one .0 .taken)) ∙ at-loop .loop .inv .0,
+      omega (arith, one .14, at-loop .loop .inv .1),
+      ap length (one .12) ∙ one .10 .given ∙ one .6 .given ∙ at-loop .loop .inv .2,
+    ))
+    (λ none. (
+      ap₂ from-here (ap₂ page (none .1) (none .2)) (none .3) ∙ sym (bit-off here front count bits i inside (λ e. none .0 .left (sym bit ∙ e))) ∙ at-loop .loop .inv .0,
+      omega (arith, none .3, at-loop .loop .inv .1),
+      ap length (none .1) ∙ at-loop .loop .inv .2,
+    ))
+    (c .if1 .came)
 
 same-length : tie.Need-same-length Inv-loop μ-loop
-same-length c = search needs
+same-length c = c .before .loop .inv .2
 
 returns : tie.Need-returns Inv-loop μ-loop
 returns c =
     let at-loop = c .before in
-    let args = at-loop .before .before .before .before .args in
-    sym (bits-end (page (at-loop .loop .out) (at-loop .loop .n)) (now (args .front)) (at-loop .loop .count) (now (args .bits)) (at-loop .loop .i) (search needs)) ∙ at-loop .loop .inv .0
+    let start = at-loop .before .before .before in
+    let args = start .args in
+    let bits = take (args .times) (drop (args .start) (now (args .damaged))) in
+    let over : length bits ≤ at-loop .loop .i = omega (arith, bits-length (now (args .damaged)) (args .start) (args .times) 0 (start .pre .1 .1), c .loop-test .left) in
+    sym (bits-end (page (at-loop .loop .out) (at-loop .loop .n)) (frontText (args .front) (args .blank)) (at-loop .loop .count) bits (at-loop .loop .i) over) ∙ at-loop .loop .inv .0
 
 pub put-bits-spec : {M : Type 1} → statement M
 put-bits-spec =
@@ -82,11 +112,16 @@ put-bits-spec =
     (tie.spec
     Inv-loop
     μ-loop
+    add-end
     loop-holds
-    shared-slice-read-put-bit
-    put-bit-requires
-    shared-slice-read-one-if
-    one-if-requires
+    add-if1
+    shared-slice-read-if1
+    front-of-requires
+    sub-put-text
+    part-put-text-start
+    part-put-text-end
+    put-text-requires
+    put-decimal-requires
     add-count
     add-i
     loop-less

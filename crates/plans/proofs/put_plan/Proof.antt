@@ -1,54 +1,65 @@
--- `plans::put_plan` meets its contract: five texts, one behind the other.
+-- `plans::put_plan` meets its contract: the pieces, Te, the damaged bits and a line feed are the plain form.
 -- Assumes nothing.
 use borrow.Author.Needs.{needs}
+use native.Mathlib.Omega.{arith}
+use mathlib.Core.Path.{ap, _∙_}
+use lib.Dec.{lit≤}
+use lib.ListN.{length}
+use mir.Facts.{fits-below}
+use denote.Ref.{now}
+use Rattle.printing.specs.Page.{page, typed}
 use Rattle.printing.proofs.Pages.{typed-then}
-use Rattle.names.specs.Bytes.{bytes}
-use Rattle.plans.specs.Plain.{plain}
+use Rattle.plans.proofs.Numbers.{decimal-typed}
+use Rattle.plans.proofs.Pieces.{caller-bits-front, answerer-bits-front, bits-within, plain-in-pieces}
 use Rattle.plans.proofs.put_plan.Statement.{statement}
 use Rattle.plans.proofs.put_plan.Tie as tie
 
-slice-aggregate-put-end : tie.Need-slice-aggregate-put-end
-slice-aggregate-put-end c = search needs
+cast-times : tie.Need-cast-times
+cast-times c = search needs
 
-put-end-requires : tie.Need-put-end-requires
-put-end-requires c κs = search needs
+mul-times : tie.Need-mul-times
+mul-times c = fits-below {n = 9000} tt (bits-within (length (now (c .before .before .args .damaged))) .0)
 
-slice-aggregate-put-end-2 : tie.Need-slice-aggregate-put-end-2
-slice-aggregate-put-end-2 c = search needs
+put-pieces-requires : tie.Need-put-pieces-requires
+put-pieces-requires c κs = lit≤ tt
 
-put-end-requires-2 : tie.Need-put-end-requires-2
-put-end-requires-2 c κs = search needs
+cast-put-decimal : tie.Need-cast-put-decimal
+cast-put-decimal c = search needs
 
-put-call-requires : tie.Need-put-call-requires
-put-call-requires c κs = search needs
+put-decimal-requires : tie.Need-put-decimal-requires
+put-decimal-requires c κs = tt
 
-put-damage-requires : tie.Need-put-damage-requires
-put-damage-requires c κs = search needs
+put-bits-requires : tie.Need-put-bits-requires
+put-bits-requires c κs = let within = bits-within (length (now (c .before .before .before .before .before .before .before .before .before .before .before .before .args .damaged))) in (caller-bits-front, (within .0, omega (arith, within .1)))
 
-slice-aggregate-put-text : tie.Need-slice-aggregate-put-text
-slice-aggregate-put-text c = search needs
+put-bits-requires-2 : tie.Need-put-bits-requires-2
+put-bits-requires-2 c κs = let within = bits-within (length (now (c .before .before .before .before .before .before .before .before .before .before .before .before .before .before .before .before .args .damaged))) in (answerer-bits-front, (within .0, within .1))
 
-put-text-requires : tie.Need-put-text-requires
-put-text-requires c κs = search needs
+put-pieces-requires-2 : tie.Need-put-pieces-requires-2
+put-pieces-requires-2 c κs = lit≤ tt
 
 same-length : tie.Need-same-length
 same-length c = search needs
 
 returns : tie.Need-returns
-unfolding bytes plain
-returns c = typed-then _ _ _ (typed-then _ _ _ (typed-then _ _ _ (typed-then _ _ _ (c .before .before .before .before .before .before .before .before .before .before .before .before .before .before .before .before .before .before .before .before .put-end .ensures) (c .before .before .before .before .before .before .before .before .before .before .before .before .before .before .before .put-end2 .ensures)) (c .before .before .before .before .before .before .before .before .before .before .before .put-call .ensures)) (c .before .before .before .before .before .before .before .put-damage .ensures)) (c .before .before .put-text .ensures)
+returns c =
+    let start = c .before .before .before .before .before .before .before .before .before .before .before .before .before .before .before .before .before .before .before .before .before .before .before in
+    let here = page (now (start .args .out)) (start .args .at) in
+    let te = decimal-typed _ _ (start .args .plan .te) (search needs) (c .before .before .before .before .before .before .before .before .before .before .before .before .before .before .put-decimal .ensures) in
+    typed-then here _ _ (typed-then here _ _ (typed-then here _ _ (typed-then here _ _ (c .before .before .before .before .before .before .before .before .before .before .before .before .before .before .before .before .before .before .before .put-pieces .ensures) te) (c .before .before .before .before .before .before .before .before .before .before .put-bits .ensures)) (c .before .before .before .before .before .before .put-bits2 .ensures)) (c .before .before .put-pieces2 .ensures)
+    ∙ ap (typed here) (plain-in-pieces (start .args .plan) (now (start .args .damaged)))
 
 pub put-plan-spec : {M : Type 1} → statement M
 put-plan-spec =
     tie.close
     (tie.spec
-    slice-aggregate-put-end
-    put-end-requires
-    slice-aggregate-put-end-2
-    put-end-requires-2
-    put-call-requires
-    put-damage-requires
-    slice-aggregate-put-text
-    put-text-requires
+    cast-times
+    mul-times
+    put-pieces-requires
+    cast-put-decimal
+    put-decimal-requires
+    put-bits-requires
+    put-bits-requires-2
+    put-pieces-requires-2
     same-length
     returns)

@@ -1,13 +1,13 @@
 -- `plans::read` meets its contract. Invariant: what is left of the text, read on from here, is what the whole text is.
 -- Assumes nothing.
 use borrow.Author.Needs.{needs}
-use Prim.Native.Nat.{ℕ, _+_, _-_, _≤_}
+use Prim.Native.Nat.{_-_, _≤_}
 use mathlib.Core.Path.{_≡_, sym, ap, _∙_}
 use lib.ListN.{length, drop}
 use denote.Ref.{now}
 use Rattle.plans.specs.declared.Reading.{Reading}
 use Rattle.plans.specs.Reading.{between, readFrom, readText}
-use Rattle.plans.proofs.Walk.{rest-of, read-on, read-stop, read-end}
+use Rattle.plans.proofs.Walk.{read-on, read-stop, read-end}
 use Rattle.plans.proofs.read.Statement.{statement}
 use Rattle.plans.proofs.read.Tie as tie
 
@@ -23,15 +23,6 @@ begin-requires c κs = search needs
 loop-holds : tie.Need-loop-holds Inv-loop μ-loop
 loop-holds c = (ap (λ (r : Reading). readFrom r between 0 (now (c .before .before .args .text))) (c .begin .ensures), search needs)
 
-sub-read-byte : tie.Need-sub-read-byte Inv-loop μ-loop
-sub-read-byte c = search needs
-
-part-read-byte-start : tie.Need-part-read-byte-start Inv-loop μ-loop
-part-read-byte-start c = search needs
-
-part-read-byte-end : tie.Need-part-read-byte-end Inv-loop μ-loop
-part-read-byte-end c = search needs
-
 read-byte-requires : tie.Need-read-byte-requires Inv-loop μ-loop
 read-byte-requires c κs = search needs
 
@@ -40,11 +31,11 @@ mistake-requires c κs = search needs
 
 returns : tie.Need-returns Inv-loop μ-loop
 returns c =
-    let at-loop = c .before .before .before .before .before .before in
-    let text = now (at-loop .before .before .before .args .text) in
-    let i = at-loop .loop .i in
+    let at-loop = c .before .before .before .before .before in
     let byte = c .before .before .before .read-byte in
-    c .mistake .ensures ∙ sym (read-stop text i (search needs) (at-loop .loop .r) (byte .result) (at-loop .loop .scan) _ (rest-of text i) (byte .ensures) (c .before .if1 .taken)) ∙ at-loop .loop .inv .0
+    c .mistake .ensures
+    ∙ sym (read-stop (now (at-loop .before .before .before .args .text)) (at-loop .loop .i) (c .before .before .before .before .loop-test .taken) (at-loop .loop .r) (at-loop .loop .scan) (byte .result) (byte .ensures) (c .before .if1 .taken))
+    ∙ at-loop .loop .inv .0
 
 shared-slice-read-scan-after : tie.Need-shared-slice-read-scan-after Inv-loop μ-loop
 shared-slice-read-scan-after c = search needs
@@ -60,12 +51,11 @@ loop-less c = search needs
 
 loop-again : tie.Need-loop-again Inv-loop μ-loop
 loop-again c =
-    let at-loop = c .before .before .before .before .before .before .before in
+    let at-loop = c .before .before .before .before .before .before in
     let text = now (at-loop .before .before .before .args .text) in
     let i = at-loop .loop .i in
     let byte = c .before .before .before .before .read-byte in
-    let on = read-on text i (search needs) (at-loop .loop .r) (byte .result) (at-loop .loop .scan) _ (rest-of text i) (byte .ensures) (c .before .before .if1 .left) in
-    (ap (λ (scan : ℕ). readFrom (byte .result) scan (i + 1) (drop (i + 1) text)) (c .scan-after .ensures) ∙ sym on ∙ at-loop .loop .inv .0, search needs)
+    (read-on text i (c .before .before .before .before .before .loop-test .taken) (at-loop .loop .r) (at-loop .loop .scan) (byte .result) (byte .ensures) (c .scan-after .result) (c .scan-after .ensures) (c .before .before .if1 .left) ∙ at-loop .loop .inv .0, search needs)
 
 finish-requires : tie.Need-finish-requires Inv-loop μ-loop
 finish-requires c κs = search needs
@@ -73,8 +63,7 @@ finish-requires c κs = search needs
 returns-2 : tie.Need-returns-2 Inv-loop μ-loop
 returns-2 c =
     let at-loop = c .before .before in
-    let text = now (at-loop .before .before .before .args .text) in
-    c .finish .ensures ∙ sym (read-end text (at-loop .loop .i) (search needs) (at-loop .loop .r) (at-loop .loop .scan)) ∙ at-loop .loop .inv .0
+    c .finish .ensures ∙ sym (read-end (now (at-loop .before .before .before .args .text)) (at-loop .loop .i) (c .before .loop-test .left) (at-loop .loop .r) (at-loop .loop .scan)) ∙ at-loop .loop .inv .0
 
 pub read-spec : {M : Type 1} → statement M
 read-spec =
@@ -84,9 +73,6 @@ read-spec =
     μ-loop
     begin-requires
     loop-holds
-    sub-read-byte
-    part-read-byte-start
-    part-read-byte-end
     read-byte-requires
     mistake-requires
     returns

@@ -1,13 +1,10 @@
--- `plans::read_byte` meets its contract: the byte at the front decides, and a word is what stands there.
+-- `plans::read_byte` meets its contract: the byte decides, and a word is what stands there.
 -- Assumes nothing.
 use borrow.Author.Needs.{needs}
 use mathlib.Core.Path.{sym, ap, _∙_}
-use Prim.Native.Nat.{ℕ}
-use lib.ListN.{take}
-use lib.Seq.{length-take-le}
-use denote.Ref.{now}
 use Rattle.plans.specs.Reading.{readWord}
 use Rattle.plans.proofs.Walk.{byte-ends, byte-reads, byte-passes}
+use denote.Ref.{now}
 use Rattle.plans.proofs.read_byte.Statement.{statement}
 use Rattle.plans.proofs.read_byte.Tie as tie
 
@@ -21,34 +18,30 @@ returns : tie.Need-returns
 returns c =
     let start = c .before .before .before .before in
     let args = start .args in
-    c .finish-line .ensures ∙ sym (byte-ends (now (args .rest)) (start .pre) (args .r) (args .scan) (c .before .if1 .taken))
+    c .finish-line .ensures ∙ sym (byte-ends (now (args .text)) (args .i) (start .pre) (args .r) (args .scan) (c .before .if1 .taken))
 
 begins-word-requires : tie.Need-begins-word-requires
 begins-word-requires c κs = search needs
 
-word-length-requires : tie.Need-word-length-requires
-word-length-requires c κs = search needs
-
-slice-aggregate-read-word : tie.Need-slice-aggregate-read-word
-slice-aggregate-read-word c = sym (length-take-le _ (c .before .before .before .before .before .before .before .args .rest .now) (c .before .word-length .ensures .1))
+word-at-requires : tie.Need-word-at-requires
+word-at-requires c κs = search needs
 
 read-word-requires : tie.Need-read-word-requires
 read-word-requires c κs = search needs
 
 returns-2 : tie.Need-returns-2
 returns-2 c =
-    let start = c .before .before .before .before .before .before .before .before in
+    let start = c .before .before .before .before .before .before .before in
     let args = start .args in
-    let rest = now (args .rest) in
     c .read-word .ensures
-    ∙ ap (λ (n : ℕ). readWord (args .r) (take n rest)) (c .before .before .word-length .ensures .0)
-    ∙ sym (byte-reads rest (start .pre) (args .r) (args .scan) (c .before .before .before .before .before .if1 .left) (sym (c .before .before .before .before .begins-word .ensures) ∙ c .before .before .before .if2 .taken))
+    ∙ ap (readWord (args .r)) (c .before .word-at .ensures)
+    ∙ sym (byte-reads (now (args .text)) (args .i) (start .pre) (args .r) (args .scan) (c .before .before .before .before .if1 .left) (sym (c .before .before .before .begins-word .ensures) ∙ c .before .before .if2 .taken))
 
 returns-3 : tie.Need-returns-3
 returns-3 c =
     let start = c .before .before .before .before .before in
     let args = start .args in
-    sym (byte-passes (now (args .rest)) (start .pre) (args .r) (args .scan) (c .before .before .if1 .left) (sym (c .before .begins-word .ensures) ∙ c .if2 .left))
+    sym (byte-passes (now (args .text)) (args .i) (start .pre) (args .r) (args .scan) (c .before .before .if1 .left) (sym (c .before .begins-word .ensures) ∙ c .if2 .left))
 
 pub read-byte-spec : {M : Type 1} → statement M
 read-byte-spec =
@@ -58,8 +51,7 @@ read-byte-spec =
     finish-line-requires
     returns
     begins-word-requires
-    word-length-requires
-    slice-aggregate-read-word
+    word-at-requires
     read-word-requires
     returns-2
     returns-3)

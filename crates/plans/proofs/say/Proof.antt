@@ -12,12 +12,12 @@ set-at-requires c κs = search needs
 in-set-requires : tie.Need-in-set-requires
 in-set-requires c κs = search needs
 
-mistaken-requires : tie.Need-mistaken-requires
-mistaken-requires c κs = search needs
+going-requires : tie.Need-going-requires
+going-requires c κs = search needs
 
 returns : tie.Need-returns
 unfolding when say
-returns c = simp (c .mistaken .ensures, c .before .if1 .taken, ← c .before .before .in-set .ensures, ← c .before .before .before .set-at .ensures)
+returns c = simp (c .going .ensures, c .before .if1 .taken, ← c .before .before .in-set .ensures, ← c .before .before .before .set-at .ensures)
 
 added-requires : tie.Need-added-requires
 added-requires c κs = search needs
@@ -35,7 +35,7 @@ say-spec =
     (tie.spec
     set-at-requires
     in-set-requires
-    mistaken-requires
+    going-requires
     returns
     added-requires
     store-requires

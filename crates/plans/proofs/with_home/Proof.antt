@@ -1,7 +1,7 @@
 -- `plans::with_home` meets its contract: whether a home function stands already decides.
 -- Assumes nothing.
-use borrow.Author.Tests.{lt-ltb, le-ltb}
 use borrow.Author.Needs.{needs}
+use borrow.Author.Tests.{lt-ltb, le-ltb}
 use Rattle.laws.specs.Logic.{when}
 use Rattle.plans.specs.Reading.{withHome}
 use Rattle.plans.proofs.with_home.Statement.{statement}

@@ -1,0 +1,59 @@
+-- `plans::number_word` meets its contract: Te is in range where a start takes it, and so it fits; the time of a bit is below the limit.
+-- Assumes nothing.
+use borrow.Author.Needs.{needs}
+use borrow.Author.Tests.{eq-eqb, ne-eqb, lt-ltb, le-ltb}
+use mathlib.Core.Path.{sym, _∙_}
+use mir.Facts.{fits-below}
+use Rattle.laws.specs.Logic.{when}
+use Rattle.plans.proofs.Numbers.{te-most}
+use Rattle.plans.proofs.number_word.Statement.{statement}
+use Rattle.plans.proofs.number_word.Tie as tie
+
+is-te-requires : tie.Need-is-te-requires
+is-te-requires c κs = search needs
+
+cast-planning : tie.Need-cast-planning
+cast-planning c = fits-below tt (te-most _ (sym (c .before .is-te .ensures) ∙ c .if2 .taken))
+
+planning-requires : tie.Need-planning-requires
+planning-requires c κs = search needs
+
+returns : tie.Need-returns
+unfolding when
+returns c = simp (c .planning .ensures, eq-eqb _ _ (c .before .before .before .if1 .taken), sym (c .before .before .is-te .ensures) ∙ c .before .if2 .taken)
+
+going-requires : tie.Need-going-requires
+going-requires c κs = search needs
+
+returns-2 : tie.Need-returns-2
+unfolding when
+returns-2 c = simp (c .going .ensures, eq-eqb _ _ (c .before .before .before .if1 .taken), sym (c .before .before .is-te .ensures) ∙ c .before .if2 .left)
+
+going-requires-2 : tie.Need-going-requires-2
+going-requires-2 c κs = search needs
+
+returns-3 : tie.Need-returns-3
+unfolding when
+returns-3 c = simp (c .going2 .ensures, ne-eqb _ _ (c .before .before .if1 .left), lt-ltb _ _ (c .before .if3 .taken))
+
+going-requires-3 : tie.Need-going-requires-3
+going-requires-3 c κs = search needs
+
+returns-4 : tie.Need-returns-4
+unfolding when
+returns-4 c = simp (c .going3 .ensures, ne-eqb _ _ (c .before .before .if1 .left), le-ltb _ _ (c .before .if3 .left))
+
+pub number-word-spec : {M : Type 1} → statement M
+number-word-spec =
+    tie.close
+    (tie.spec
+    is-te-requires
+    cast-planning
+    planning-requires
+    returns
+    going-requires
+    returns-2
+    going-requires-2
+    returns-3
+    going-requires-3
+    returns-4)
