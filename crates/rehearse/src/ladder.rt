@@ -2,14 +2,17 @@
 use super::line;
 use super::line::Line;
 use super::words;
+use super::words::Text;
+use super::words::blank;
 use super::words::put_words;
+use libc::STDOUT_FILENO;
 use menus::Offer;
 use menus::ReadMenu;
-use printing::put_text;
 use std::num::wrapping_add_u8;
 use std::num::wrapping_add_usize;
 use std::num::wrapping_sub_usize;
 use steps::Session;
+ghost use Prim.Native.Nat.{_<_, _≤_};
 
 // The columns: milliseconds end at 5, the ends' own stand at 7 and 86, and the middle has the 66 between 19 and 85.
 const CLOCK_END: usize = 5;
@@ -20,37 +23,55 @@ const BEFORE_MIDDLE: usize = 18;
 
 const MIDDLE: usize = 19;
 
+const LAST_OF_MIDDLE: usize = 85;
+
 const ANSWERER_COLUMN: usize = 86;
 
-const ROW: usize = 100;
+// How much of a text stands in a row, with the blank before it: the rest of the middle is for an arrow.
+const PIECE: usize = 63;
 
-// What is put into the middle at once: the rest is for an arrow.
-const PIECE: usize = 62;
+// The last byte of a text, which is a blank.
+const LAST: usize = 639;
 
-// The longest text of a middle: a menu of 64 octets with every name.
-const TEXT: usize = 600;
+// What happens: a state that is entered has its own number, and a report stands behind these.
+const REPORTS: u8 = 11;
 
-// A part of a text, empty where there is none.
-fn part(text: &[u8], from: usize, to: usize) -> &[u8] {
-    if to <= text.len() {
-        if from <= to {
-            return &text[from..to];
+// The length of a text without the blanks at its end, and without its last byte.
+fn trimmed(text: Text) -> usize
+    ensures { λ r. ⌜ r ≤ 639 ⌝ }
+{
+    let bytes = text.bytes;
+    let mut n: usize = LAST;
+    while 0 < n {
+        if bytes[n - 1] != b' ' {
+            return n;
         }
-        return &text[0..0];
+        n -= 1;
     }
-    &text[0..0]
+    0
 }
 
-// Octets, a blank before each.
-fn put_octets(out: &mut [u8], at: usize, octets: &[u8]) -> usize {
-    let mut n = at;
+// Writes a line, without the blanks at its end.
+pub fn say(text: Text) {
+    let n = trimmed(text);
+    let mut bytes = text.bytes;
+    bytes[n] = b'\n';
+    io::write_all(STDOUT_FILENO, line::part(&bytes, n + 1));
+}
+
+// Octets, a blank before each and two before the first.
+fn put_octets(text: Text, octets: &[u8]) -> Text {
+    let mut bytes = text.bytes;
+    let mut n = wrapping_add_usize(text.len, least(octets.len(), 1));
     let mut i: usize = 0;
     while i < octets.len() {
-        n = put_text(out, n, b" ");
-        n = printing::put_octet(out, n, octets[i]);
+        n = printing::put_octet(&mut bytes, wrapping_add_usize(n, 1), octets[i]);
         i += 1;
     }
-    n
+    Text {
+        bytes: bytes,
+        len: n,
+    }
 }
 
 // What a menu offers; nothing where it cannot be read.
@@ -67,207 +88,180 @@ fn modes_of(offer: Offer) -> u16 {
     offer.items % 8192 / 2 * 2 + 8192 * ((offer.pcm % 8) as u16)
 }
 
-fn is_some(set: u16) -> u8 {
-    if set == 0 {
-        return 0;
-    }
-    1
-}
-
 // 1 for LAPM, 2 for an access group.
 fn options_of(offer: Offer) -> u8 {
-    if offer.lapm {
-        if offer.access {
-            return 3;
-        }
-        return 1;
-    }
-    if offer.access {
-        return 2;
-    }
-    0
+    offer.lapm as u8 % 2 + 2 * (offer.access as u8 % 2)
 }
 
-// What a menu offers, and its octets.
-fn put_menu(out: &mut [u8], at: usize, octets: &[u8]) -> usize {
-    if octets.len() == 0 {
-        return at;
-    }
+// A menu, by the number of its name: what it offers, and its octets.
+fn menu_text(name: u8, octets: &[u8]) -> Text {
     let offer = offer_in(octets);
     let modes = modes_of(offer);
-    let mut n = names::put_names(out, at, names::FUNCTION, 1 << (offer.function % 8));
-    n = put_words(out, n, words::COLON, is_some(modes));
-    n = names::put_names(out, n, names::MODE, modes);
-    n = put_words(out, n, words::OPTIONS, options_of(offer));
-    n = names::put_names(out, n, names::ACCESS, offer.access_options as u16);
-    n = put_text(out, n, b" ");
-    put_octets(out, n, octets)
+    let access = offer.access_options as u16;
+    let sets = [
+        0,
+        0,
+        0,
+        1 << (offer.function % 8),
+        modes,
+        0,
+        0,
+        0,
+        0,
+        access,
+        0,
+    ];
+    let is_some = match modes {
+        0 => 0,
+        _ => 1,
+    };
+    let named = words::put_named(blank(), name, 0, sets);
+    let offered = words::put_named(named, words::MODES, is_some, sets);
+    let all = words::put_named(offered, words::OPTIONS, options_of(offer), sets);
+    put_octets(all, octets)
 }
 
-// The piece of a text that begins with the blank at a place: up to the last blank that it has room for.
-fn piece(text: &[u8], from: usize) -> &[u8] {
-    let mut to = from;
+// The lesser of two numbers.
+pub fn least(a: usize, b: usize) -> usize
+    ensures { λ r. ⌜ (r ≤ a) × (r ≤ b) ⌝ }
+{
+    if a < b {
+        return a;
+    }
+    b
+}
+
+// Where the piece of a text ends that begins with the blank at a place: at the last blank that it has room for.
+fn piece_end(text: Text, from: usize, len: usize) -> usize
+    requires { ⌜ from < len ⌝ }
+    requires { ⌜ len ≤ 639 ⌝ }
+    ensures { λ r. ⌜ (from < r) × (r ≤ len) ⌝ }
+{
+    let bytes = text.bytes;
+    let mut end = len;
+    while from + 1 < end {
+        if bytes[end] == b' ' {
+            if end - from <= PIECE {
+                return end;
+            }
+        }
+        end -= 1;
+    }
+    end
+}
+
+// Milliseconds, up to the column where they end; nothing in further rows.
+fn clock(now: u32, what: u8) -> Text {
+    let digits = words::put_number(blank(), 0, now as u64);
+    match what {
+        0 => blank(),
+        _ => words::put_number(
+            blank(),
+            wrapping_sub_usize(CLOCK_END, digits.len),
+            now as u64,
+        ),
+    }
+}
+
+// A piece of a text, with the blanks around it, from a column on.
+fn put_piece(row: Text, column: usize, text: Text, from: usize, to: usize) -> Text
+    requires { ⌜ from < to ⌝ }
+    requires { ⌜ to ≤ 639 ⌝ }
+{
+    let source = text.bytes;
+    let mut next = row;
+    next.len = column;
     let mut i = from;
-    while i < text.len() {
-        let at = i;
+    while i <= to {
+        next = words::put(next, source[i]);
         i += 1;
-        if text[at] != b' ' {
-            continue;
+    }
+    next
+}
+
+// A word of the table, from a column on.
+fn put_at(row: Text, column: usize, group: u8, number: u8) -> Text {
+    let mut next = row;
+    next.len = column;
+    put_words(next, group, number)
+}
+
+// A row: the clock and the word for what happens to an end, both empty in further rows, and a piece of the text at the side of the end.
+fn row(now: u32, end: u8, what: u8, text: Text, from: usize, to: usize) -> Text
+    requires { ⌜ from < to ⌝ }
+    requires { ⌜ to ≤ 639 ⌝ }
+{
+    let arrow = put_at(clock(now, what), MIDDLE, words::ARROWS, what);
+    match end {
+        steps::CALLER => {
+            let piece = put_piece(arrow, BEFORE_MIDDLE, text, from, to);
+            put_at(piece, CALLER_COLUMN, words::WORDS, what)
         }
-        if PIECE + 1 < at - from {
-            return part(text, from, wrapping_add_usize(to, 1));
+        _ => {
+            let column = wrapping_sub_usize(LAST_OF_MIDDLE, to - from);
+            let piece = put_piece(arrow, column, text, from, to);
+            put_at(piece, ANSWERER_COLUMN, words::WORDS, what)
         }
-        to = at;
     }
-    part(text, from, wrapping_add_usize(to, 1))
 }
 
-// A row without the blanks at its end.
-fn put_row(page: &mut [u8], at: usize, row: &[u8]) -> usize {
-    let mut len = row.len();
-    while 0 < len {
-        if row[len - 1] != b' ' {
-            let n = put_text(page, at, part(row, 0, len));
-            return put_text(page, n, b"\n");
-        }
-        len -= 1;
+// What happens to an end, with the text for it, in as many rows as it takes.
+fn tell(now: u32, end: u8, what: u8, text: Text) {
+    let len = least(text.len, LAST);
+    let mut word = what;
+    let mut from: usize = 0;
+    while from < len {
+        let to = piece_end(text, from, len);
+        say(row(now, end, word, text, from, to));
+        word = 0;
+        from = to;
     }
-    at
-}
-
-fn column_of(end: u8) -> usize {
-    if end == steps::CALLER {
-        return CALLER_COLUMN;
-    }
-    ANSWERER_COLUMN
-}
-
-// Where a piece stands that has so many bytes, with a blank on either side.
-fn place_of(end: u8, len: usize) -> usize {
-    if end == steps::CALLER {
-        return BEFORE_MIDDLE;
-    }
-    wrapping_sub_usize(ANSWERER_COLUMN, len)
-}
-
-// The number of the arrow away from an end, where a state sends something.
-fn arrow_of(what: u8) -> u8 {
-    if what == steps::ANSWERING || what == steps::JOINT {
-        return words::ARROWS;
-    }
-    if what == steps::MENU || what == steps::CLOSING {
-        return words::ARROWS + 1;
-    }
-    0
-}
-
-// A row: the clock and the word for what happens to an end, both empty in further rows, and a piece of the text.
-fn put_piece(page: &mut [u8], at: usize, clock: &[u8], end: u8, what: u8, text: &[u8]) -> usize {
-    let mut row = [b' '; ROW];
-    put_text(&mut row, wrapping_sub_usize(CLOCK_END, clock.len()), clock);
-    put_words(&mut row, column_of(end), words::WORDS, what);
-    put_words(&mut row, MIDDLE, words::WORDS, arrow_of(what));
-    put_text(&mut row, place_of(end, text.len()), text);
-    put_row(page, at, &row)
-}
-
-// What happens to an end, with the text for it between blanks, in as many rows as it takes.
-fn put_rows(page: &mut [u8], at: usize, now: u32, end: u8, what: u8, text: &[u8]) -> usize {
-    let mut digits = [0u8; 20];
-    let count = io::decimal(now as u64, &mut digits);
-    let first = piece(text, 0);
-    let mut n = put_piece(page, at, &digits[..count], end, what, first);
-    let mut from = first.len();
-    while from < text.len() {
-        let next = piece(text, wrapping_sub_usize(from, 1));
-        n = put_piece(page, n, b"", end, 0, next);
-        if next.len() < 2 {
-            return n;
-        }
-        from += next.len() - 1;
-    }
-    n
 }
 
 // How a session ended, by the number of its text, and what it goes on with.
-fn put_outcome(out: &mut [u8], at: usize, number: u8, session: Session) -> usize {
-    let n = put_words(out, at, words::WORDS, number);
-    if session.ended == steps::GO_ON {
-        return put_words(out, n, words::CHOICES, session.chosen);
+fn put_outcome(text: Text, group: u8, number: u8, session: Session) -> Text {
+    let next = put_words(text, group, number);
+    let ended = session.ended;
+    match ended {
+        steps::GO_ON => put_words(next, words::CHOICES, session.chosen),
+        _ => next,
     }
-    n
 }
 
-// The number of the text for what happened to an end: a state is entered, or something is heard.
-fn text_of(line: Line, what: u8) -> u8 {
-    let session = line.session;
-    if what == steps::OVER {
-        return wrapping_add_u8(words::OUTCOMES, session.ended);
-    }
-    if what < line::HEARS {
-        return wrapping_add_u8(words::SENDS, what);
-    }
-    if what == line::AGREED && line.choice < line::NO_CHOICE {
-        return wrapping_add_u8(words::CHOICES, line.choice);
-    }
-    if what == line::AGREED || line.told == words::MENUS {
-        return wrapping_add_u8(words::MENUS, session.end);
-    }
-    line.told
-}
-
-// The octets that belong to a text: the menu that is sent, or the message that is heard.
-fn octets_of<'a>(text: u8, menu: &'a [u8], heard: &'a [u8]) -> &'a [u8] {
-    if text == words::SENDS + steps::MENU || text == words::SENDS + steps::JOINT {
-        return menu;
-    }
-    if words::CI <= text && text < words::CJ {
-        return heard;
-    }
-    part(menu, 0, 0)
-}
-
-fn put_what(page: &mut [u8], at: usize, now: u32, line: Line, what: u8, heard: &[u8]) -> usize {
-    if what == 0 {
-        return at;
-    }
+// A state is entered: what the end sends there, or how its session ended.
+pub fn entered(line: Line, now: u32) {
     let session = line.session;
     let menu = line.menu;
-    let number = text_of(line, what);
-    let mut text = [b' '; TEXT];
-    let n = put_outcome(&mut text, 0, number, session);
-    let m = put_menu(
-        &mut text,
-        n,
-        octets_of(number, part(&menu, 0, line.menu_len), heard),
-    );
-    put_rows(
-        page,
-        at,
+    let state = session.state;
+    let number = wrapping_add_u8(state, session.ended);
+    let sent = wrapping_add_u8(words::SENDS, state);
+    let text = match state {
+        steps::MENU | steps::JOINT => menu_text(sent, line::part(&menu, line.menu_len)),
+        _ => put_outcome(blank(), words::SENDS, number, session),
+    };
+    tell(now, session.end, state, text);
+}
+
+// A choice is made, by a menu that was heard.
+pub fn chosen(session: Session, choice: u8, now: u32) {
+    let text = put_words(blank(), words::CHOICES, choice);
+    tell(now, session.end, REPORTS + line::AGREED, text);
+}
+
+// What was heard. A menu has its name by the end that hears it.
+pub fn heard(session: Session, told: u8, octets: &[u8], now: u32) {
+    let menu = wrapping_add_u8(words::MENUS, session.end);
+    let name = match told {
+        line::MENU => menu,
+        line::AGREED => menu,
+        _ => wrapping_add_u8(words::HEARD, told),
+    };
+    tell(
         now,
         session.end,
-        what,
-        part(&text, 0, wrapping_add_usize(m, 1)),
-    )
-}
-
-// What happened to an end in a bit time, with the message that it heard.
-pub fn show(page: &mut [u8], at: usize, now: u32, line: Line, heard: &[u8]) -> usize {
-    let mut n = at;
-    let mut weight: u16 = 4096;
-    while 0 < weight {
-        n = put_what(page, n, now, line, (line.news / weight % 16) as u8, heard);
-        weight /= 16;
-    }
-    n
-}
-
-// The number of the text for how both ends ended.
-fn both_ended(ended: u8) -> u8 {
-    if ended == steps::GO_ON {
-        return words::GO_ON_BOTH;
-    }
-    wrapping_add_u8(words::OUTCOMES, ended)
+        wrapping_add_u8(REPORTS, told),
+        menu_text(name, octets),
+    );
 }
 
 // Whether both ends ended in the same way; a choice counts where they go on with it.
@@ -276,27 +270,13 @@ fn is_alike(caller: Session, answerer: Session) -> bool {
         && (caller.ended < steps::GO_ON || caller.chosen == answerer.chosen)
 }
 
-// The last line: how the call ended.
-pub fn put_ending(page: &mut [u8], at: usize, caller: Session, answerer: Session) -> usize {
-    if caller.state != steps::OVER || answerer.state != steps::OVER {
-        return put_words(page, at, words::NOT_OVER, 0);
-    }
+// How the call ended.
+pub fn ending(caller: Session, answerer: Session) -> Text {
     if is_alike(caller, answerer) {
-        let n = put_words(page, at, words::BOTH_ENDS, 0);
-        return put_outcome(page, n, both_ended(caller.ended), caller);
+        return put_outcome(blank(), words::BOTH, caller.ended, caller);
     }
-    let n = put_words(page, at, words::ENDS_DIFFER, 0);
-    let m = put_outcome(
-        page,
-        n,
-        wrapping_add_u8(words::OUTCOMES, caller.ended),
-        caller,
-    );
-    let k = put_words(page, m, words::ANSWERER, 0);
-    put_outcome(
-        page,
-        k,
-        wrapping_add_u8(words::OUTCOMES, answerer.ended),
-        answerer,
-    )
+    let differ = put_words(blank(), words::ENDS_DIFFER, 0);
+    let first = put_outcome(differ, words::OUTCOMES, caller.ended, caller);
+    let second = put_words(first, words::ANSWERER, 0);
+    put_outcome(second, words::OUTCOMES, answerer.ended, answerer)
 }

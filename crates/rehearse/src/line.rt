@@ -1,89 +1,109 @@
 // An end of the call: what a host keeps for each line, and what it does with events, reports and bits. It is the loop of
-// examples/line.c, and its functions have the same names.
-use super::words;
+// examples/line.c: what has the same name there does the same.
+use super::ladder;
 use listening::Heard;
+use listening::Listener;
 use octets::Kind;
-use records::Record;
+use plans::Plan;
 use refusals::Wrote;
 use steps::Session;
 
-// Room for the bits of one copy of a menu that we made, and of CJ behind it.
-pub const MOST_BITS: usize = 120;
+// Room for the bits of one copy of a menu that we made, for CJ behind it, and for the 1 that is sent where there is nothing to send; where
+// these stand, and where CJ ends.
+const MOST_BITS: usize = 121;
 
-// How many bits an octet takes on the line, and CJ.
+const CJ_AT: usize = 90;
+
+const LAST_OF_CJ: usize = 119;
+
+const IDLE: usize = 120;
+
+// How many bits an octet takes on the line.
 const OCTET_BITS: usize = 10;
 
-const CJ_BITS: usize = 30;
-
-// What a host keeps for each line, besides its listener and the bits of a copy: the CM or JM of this end, how many bits a copy of it has,
-// 0 before they are written, how many of them are on the line, and the bit that is sent now. The rest is for the ladder: the last
-// report, the choice by it, and what happened in this bit time.
+// What a host keeps for each line: what is planned; the CM or JM of this end; one copy of it, CJ and a 1, a byte for each bit; how many bits the
+// copy has, and how many of what is sent are on the line; the bit that is sent now; the last report.
 pub struct Line {
+    pub plan: Plan,
     pub session: Session,
+    pub ear: Listener,
     pub menu: [u8; 7],
     pub menu_len: usize,
+    pub bits: [u8; MOST_BITS],
     pub len: usize,
     pub sent: usize,
     pub bit: u8,
     pub told: u8,
-    pub choice: u8,
-    pub news: u16,
 }
 
-// What happened: a state that is entered has its own number, and these are reports.
-pub const HEARS: u8 = 11;
-
-pub const AGREED: u8 = 12;
-
-pub const REFUSED: u8 = 13;
-
-// What is chosen where a menu is agreed that nothing waits for.
-pub const NO_CHOICE: u8 = 25;
-
 // No end has this event: nothing happened.
-pub const NO_EVENT: u8 = 0;
+const NO_EVENT: u8 = 0;
 
-// A call starts, with the CM of a caller.
-pub fn line_start(session: Session, menu: [u8; 7], menu_len: usize) -> Line {
+// A report as a number: those of the header, and behind them the refusals.
+const NOTHING: u8 = 0;
+
+pub const CI: u8 = 1;
+
+pub const MENU: u8 = 2;
+
+pub const AGREED: u8 = 3;
+
+pub const CJ: u8 = 4;
+
+// A call starts, with nothing made or heard.
+pub fn line_start(session: Session, plan: Plan) -> Line {
     Line {
+        plan: plan,
         session: session,
-        menu: menu,
-        menu_len: menu_len,
+        ear: listening::fresh_line(),
+        menu: [0u8; 7],
+        menu_len: 0,
+        bits: [1u8; MOST_BITS],
         len: 0,
         sent: 0,
         bit: 1,
-        told: 0,
-        choice: NO_CHOICE,
-        news: session.state as u16,
+        told: NOTHING,
     }
 }
 
-pub fn count_of(wrote: Wrote) -> usize {
+fn count_of(wrote: Wrote) -> usize {
     match wrote {
         Wrote::Count(n) => n,
         Wrote::Refused(_) => 0,
     }
 }
 
-// The first octets of a buffer, or none where it has fewer.
-pub fn part(octets: &[u8], len: usize) -> &[u8] {
-    if len <= octets.len() {
-        return &octets[0..len];
+// The first bytes of a buffer, or none where it has fewer.
+pub fn part(bytes: &[u8], len: usize) -> &[u8] {
+    if len <= bytes.len() {
+        return &bytes[0..len];
     }
-    &octets[0..0]
+    &bytes[0..0]
 }
 
-// The octets of a message.
-pub fn octets_in(octets: &[u8; 64], len: u8) -> &[u8] {
-    part(octets, len as usize)
+// A menu that this end made, with one copy of its bits, and CJ.
+fn with_menu(line: Line, menu: [u8; 7], menu_len: usize) -> Line {
+    let mut bits = [1u8; MOST_BITS];
+    let wrote = sequences::write(Kind::Menu, part(&menu, menu_len), 1, &mut bits);
+    sequences::write_cj(&mut bits[CJ_AT..]);
+    let mut next = line;
+    next.menu = menu;
+    next.menu_len = menu_len;
+    next.bits = bits;
+    next.len = count_of(wrote);
+    next
 }
 
-// One more thing that happened in this bit time, behind the others.
-fn with_news(news: u16, what: u8) -> u16 {
-    news % 4096 * 16 + (what % 16) as u16
+// A caller with its CM.
+pub fn with_cm(line: Line) -> Line {
+    let plan = line.plan;
+    let own = plans::record_of(plan, steps::CALLER);
+    let mut menu = [0u8; 7];
+    let wrote = offers::make_cm(own, plan.function, &mut menu);
+    with_menu(line, menu, count_of(wrote))
 }
 
-// An event, with its time. A state that is entered is news.
+// An event, with its time. A state that is entered is told.
 fn line_step(line: Line, event: u8, value: u8, now: u32) -> Line {
     let session = line.session;
     let stepped = steps::step(session, event, value, now);
@@ -94,88 +114,64 @@ fn line_step(line: Line, event: u8, value: u8, now: u32) -> Line {
     }
     let mut next = line;
     next.session = after;
-    next.news = with_news(line.news, after.state);
+    ladder::entered(next, now);
     next
 }
 
-// What is still news when a bit time begins: nothing, but the state that a call starts in.
-fn news_before(news: u16, now: u32) -> u16 {
-    if now == 0 {
-        return news;
-    }
-    0
+// A bit time begins: a tick, and the tone that the line card hears while the other end is in a state.
+pub fn line_tick(line: Line, other: Session, now: u32) -> Line {
+    let state = other.state;
+    let tone = match state {
+        steps::ANSWERING => steps::ANSAM,
+        _ => NO_EVENT,
+    };
+    line_step(line_step(line, steps::TICK, 0, now), tone, 0, now)
 }
 
-// A bit time begins: a tick, and the tone that the line card hears.
-pub fn line_tick(line: Line, tone: u8, now: u32) -> Line {
-    let mut next = line;
-    next.news = news_before(line.news, now);
-    line_step(line_step(next, steps::TICK, 0, now), tone, 0, now)
-}
-
-// Writes one copy of a menu that was made, and CJ behind it, once: where its bits are there already, or no menu is made yet, nothing is
-// written. Answers how many bits the copy has.
-fn write_copy(len: usize, menu: &[u8], bits: &mut [u8]) -> usize {
-    if len != 0 || menu.len() == 0 {
-        return len;
+// The greater of two places.
+fn later(a: usize, b: usize) -> usize {
+    if a < b {
+        return b;
     }
-    let made = count_of(sequences::write(Kind::Menu, menu, 1, bits));
-    if made <= bits.len() {
-        sequences::write_cj(&mut bits[made..]);
-        return made;
-    }
-    0
-}
-
-// What is sent in a state ends at this place of its bits: a copy of the menu, or CJ behind it; 0 where nothing is sent.
-fn end_of(state: u8, len: usize) -> usize {
-    if state == steps::MENU || state == steps::JOINT {
-        return len;
-    }
-    if state == steps::CLOSING {
-        return std::num::wrapping_add_usize(len, CJ_BITS);
-    }
-    0
+    a
 }
 
 // The place of the next bit. The caller finishes the octet that it is sending with its stop bit (V.8, 8.1.2), the ten 1s and the sync are
 // ten bits as well, and CJ follows.
-fn place_of(state: u8, sent: usize, len: usize) -> usize {
-    if state == steps::CLOSING && (sent <= len && sent % OCTET_BITS == 0) {
-        return len;
+fn place_of(state: u8, sent: usize) -> usize {
+    let in_octet = sent % OCTET_BITS;
+    match state {
+        steps::MENU => sent,
+        steps::JOINT => sent,
+        steps::CLOSING => match in_octet {
+            0 => later(sent, CJ_AT),
+            _ => sent,
+        },
+        _ => IDLE,
     }
-    sent
 }
 
-// A bit of what is sent up to a place, 1 where there is none. A menu is sent until the state changes, CJ once.
-fn line_send(line: Line, bits: &[u8], end: usize, now: u32) -> Line {
-    let session = line.session;
-    let at = place_of(session.state, line.sent, line.len);
-    let mut next = line;
-    if end <= at || bits.len() <= at {
-        next.bit = 1;
-        next.sent = 0;
-        return next;
+// The place behind a bit: the front, behind a copy of the menu and behind all.
+fn place_behind(at: usize, len: usize) -> usize {
+    let next = std::num::wrapping_add_usize(at, 1);
+    if next == len {
+        return 0;
     }
-    next.bit = bits[at];
-    next.sent = at + 1;
-    if at + 1 < end {
-        return next;
-    }
-    next.sent = 0;
-    if session.state == steps::CLOSING {
-        return line_step(next, steps::CJ_SENT, 0, now);
-    }
-    next
+    next % MOST_BITS
 }
 
-// The next bit to the line. The bits of a menu are written before the first of them is sent.
-pub fn line_bit(line: Line, bits: &mut [u8; MOST_BITS], now: u32) -> Line {
+// The next bit to the line. A menu is sent until the state changes, CJ once.
+pub fn line_bit(line: Line, now: u32) -> Line {
     let session = line.session;
-    let menu = line.menu;
+    let bits = line.bits;
+    let at = place_of(session.state, line.sent);
     let mut next = line;
-    next.len = write_copy(line.len, part(&menu, line.menu_len), bits);
-    line_send(next, bits, end_of(session.state, next.len), now)
+    next.bit = bits[at % MOST_BITS];
+    next.sent = place_behind(at, line.len);
+    match at {
+        LAST_OF_CJ => line_step(next, steps::CJ_SENT, 0, now),
+        _ => next,
+    }
 }
 
 // The choice, as an event carries it.
@@ -183,84 +179,99 @@ fn choose(cm: &[u8], jm: &[u8]) -> u8 {
     codes::carried(codes::choice_code(choices::choice_of(cm, jm)))
 }
 
+// What both menus let both ends go on with: it is told, and the event carries it.
+fn line_chosen(line: Line, event: u8, choice: u8, now: u32) -> Line {
+    ladder::chosen(line.session, choice, now);
+    let mut next = line;
+    next.told = AGREED;
+    line_step(next, event, choice, now)
+}
+
 // A CM to answer with the JM for it. A good record and an agreed menu are not refused.
-fn hear_cm(line: Line, own: Record, cm: &[u8], now: u32) -> Line {
+fn hear_cm(line: Line, cm: &[u8], now: u32) -> Line {
+    let own = plans::record_of(line.plan, steps::ANSWERER);
     let mut menu = [0u8; 7];
     let len = count_of(offers::make_jm(own, cm, &mut menu));
     let choice = choose(cm, part(&menu, len));
-    let mut next = line;
-    next.menu = menu;
-    next.menu_len = len;
-    next.len = 0;
-    next.choice = choice;
-    line_step(next, steps::AGREED_CM, choice, now)
+    line_chosen(with_menu(line, menu, len), steps::AGREED_CM, choice, now)
 }
 
 // The answer to the caller's CM.
 fn hear_jm(line: Line, jm: &[u8], now: u32) -> Line {
     let menu = line.menu;
     let choice = choose(part(&menu, line.menu_len), jm);
+    line_chosen(line, steps::AGREED_JM, choice, now)
+}
+
+// A report that nothing waits for: not told where it repeats the one before. A CI or a menu that is not agreed is another each time.
+fn line_told(line: Line, told: u8, heard: &[u8], now: u32) -> Line {
+    if told != line.told {
+        ladder::heard(line.session, told, heard, now);
+    }
     let mut next = line;
-    next.choice = choice;
-    line_step(next, steps::AGREED_JM, choice, now)
+    next.told = match told {
+        CI => NOTHING,
+        MENU => NOTHING,
+        _ => told,
+    };
+    next
 }
 
 // A menu that was heard twice: the caller's answer to its CM, or a CM to answer. Nothing waits for any other.
-fn line_agreed(line: Line, own: Record, heard: &[u8], now: u32) -> Line {
+fn line_agreed(line: Line, heard: &[u8], now: u32) -> Line {
     let session = line.session;
-    if session.state == steps::MENU {
-        return hear_jm(line, heard, now);
+    let state = session.state;
+    match state {
+        steps::MENU => hear_jm(line, heard, now),
+        steps::ANSWERING => hear_cm(line, heard, now),
+        _ => line_told(line, AGREED, heard, now),
     }
-    if session.state == steps::ANSWERING {
-        return hear_cm(line, own, heard, now);
-    }
-    let mut next = line;
-    next.choice = NO_CHOICE;
-    next
 }
 
-// A report, as the number of its text.
-pub fn told_of(report: Heard) -> u8 {
+fn told_of(report: Heard) -> u8 {
     match report {
-        Heard::Nothing => 0,
-        Heard::Ci => words::CI,
-        Heard::Menu(agreed) => { if agreed { words::AGREED } else { words::MENUS } }
-        Heard::Cj => words::CJ,
-        Heard::Refused(r) => words::REFUSALS + refusals::refusal_number(r) % 16,
+        Heard::Nothing => NOTHING,
+        Heard::Ci => CI,
+        Heard::Menu(agreed) => { if agreed { AGREED } else { MENU } }
+        Heard::Cj => CJ,
+        Heard::Refused(r) => CJ + refusals::refusal_number(r) % 16,
     }
 }
 
-// A report as news: nothing where it repeats the one before. A CI or a menu that is not agreed is another each time.
-fn news_of(told: u8, before: u8) -> u8 {
-    if told < words::CJ {
-        return HEARS;
+// What the listener reports.
+fn line_report(line: Line, told: u8, heard: &[u8], now: u32) -> Line {
+    match told {
+        NOTHING => line,
+        AGREED => line_agreed(line, heard, now),
+        CJ => line_step(line_told(line, told, heard, now), steps::CJ, 0, now),
+        _ => line_told(line, told, heard, now),
     }
-    if told == before {
-        return 0;
-    }
-    if told == words::CJ {
-        return HEARS;
-    }
-    if told == words::AGREED {
-        return AGREED;
-    }
-    REFUSED
 }
 
-// What the listener reports. An end that is over hears nothing: its line is in another modulation, or cleared.
-pub fn line_hear(line: Line, own: Record, told: u8, heard: &[u8], now: u32) -> Line {
+// The octets of a message that is reported; none for CJ and refusals.
+fn octets_in(octets: &[u8; 64], len: u8, told: u8) -> &[u8] {
+    let count = match told {
+        CI => len,
+        MENU => len,
+        AGREED => len,
+        _ => 0,
+    };
+    part(octets, count as usize)
+}
+
+// A bit from the line. An end that is over hears nothing: its line is in another modulation, or cleared.
+pub fn line_hear(line: Line, bit: u8, now: u32) -> Line {
     let session = line.session;
-    if told == 0 || session.state == steps::OVER {
+    if session.state == steps::OVER {
         return line;
     }
+    let heard = listening::hear(line.ear, bit);
+    let report = heard.report;
+    let told = told_of(report);
+    let ear = heard.rec;
+    let msg = ear.msg;
+    let octets = msg.octets;
     let mut next = line;
-    next.told = told;
-    next.news = with_news(line.news, news_of(told, line.told));
-    if told == words::AGREED {
-        return line_agreed(next, own, heard, now);
-    }
-    if told == words::CJ {
-        return line_step(next, steps::CJ, 0, now);
-    }
-    next
+    next.ear = ear;
+    line_report(next, told, octets_in(&octets, msg.len, told), now)
 }

@@ -5,234 +5,223 @@ mod ladder;
 mod line;
 mod words;
 
+use ladder::say;
 use libc::STDIN_FILENO;
 use libc::STDOUT_FILENO;
+use line::Line;
 use plans::Plan;
-use printing::put_text;
 use steps::Session;
 use steps::Started;
+use words::Text;
+use words::blank;
 use words::put_words;
+ghost use mathlib.Core.Path.{_≡_};
+ghost use Prim.Native.Nat.{_<_};
+ghost use lib.ListN.{length};
 
-// Room for a text. The longest plan that is printed, every bit damaged, takes less: so what is printed can be read.
-const TEXT: usize = 131072;
+// Room for a text, and for a plan: the longest, every bit damaged, takes less, so what is printed can be read.
+const ROOM: usize = 131072;
 
-// Room for all that is printed of a call: the longest plan takes less than 120,000 bytes, and of a ladder each row takes more than ten of
-// the 18,000 bits.
-const PAGE: usize = 262144;
-
-// How long a call is rehearsed, in bits of 300 a second: 30 seconds.
-const BIT_TIMES: u32 = 9000;
+// How long a call is rehearsed, in bits.
+const BIT_TIMES: u32 = plans::BIT_TIMES as u32;
 
 // How many bytes of a word are shown.
 const MOST_SHOWN: usize = 40;
 
 // How many bits both ends send.
-const LINE_BITS: usize = 18000;
+const LINE_BITS: usize = 2 * plans::BIT_TIMES;
+
+// How many lines say what a call text looks like.
+const HELP_LINES: u8 = 19;
+
+// Room, with a promise of its length: where a large array is made, its length takes long to prove.
+fn room() -> [u8; ROOM]
+    ensures { λ r. ⌜ 131072 ≡ length r ⌝ }
+{
+    [b' '; ROOM]
+}
+
+// No damaged bit.
+fn undamaged() -> [u8; LINE_BITS]
+    ensures { λ r. ⌜ 18000 ≡ length r ⌝ }
+{
+    [0u8; LINE_BITS]
+}
 
 // A bit as it arrives: inverted where it is damaged.
 fn arriving(bit: u8, damaged: &[u8], place: usize) -> u8 {
     if place < damaged.len() {
-        return (bit % 2 + damaged[place] % 2) % 2;
+        return bit ^ damaged[place];
     }
     bit
 }
 
-// What the caller's line card hears while the answerer is in a state.
-fn tone_of(state: u8) -> u8 {
-    if state == steps::ANSWERING {
-        return steps::ANSAM;
-    }
-    line::NO_EVENT
+// Both ends of the line.
+struct Ends {
+    caller: Line,
+    answerer: Line,
 }
 
-fn is_over(caller: Session, answerer: Session) -> bool {
-    caller.state == steps::OVER && answerer.state == steps::OVER
+// One bit time: each end sends a bit, and hears that of the other.
+fn bit_time(ends: Ends, damaged: &[u8], time: u32) -> Ends
+    requires { ⌜ time < 9000 ⌝ }
+{
+    let now = time * 10 / 3;
+    let caller = ends.caller;
+    let answerer = ends.answerer;
+    let calling = line::line_bit(line::line_tick(caller, answerer.session, now), now);
+    let answering = line::line_bit(line::line_tick(answerer, caller.session, now), now);
+    let there = arriving(calling.bit, damaged, plans::bit_place(steps::CALLER, time));
+    let back = arriving(
+        answering.bit,
+        damaged,
+        plans::bit_place(steps::ANSWERER, time),
+    );
+    Ends {
+        caller: line::line_hear(calling, back, now),
+        answerer: line::line_hear(answering, there, now),
+    }
+}
+
+fn is_over(ends: Ends) -> bool {
+    ends.caller.session.state == steps::OVER && ends.answerer.session.state == steps::OVER
 }
 
 // Runs the call until both ends are over, or the time is.
-fn run(
-    page: &mut [u8],
-    at: usize,
-    plan: Plan,
-    cm: [u8; 7],
-    cm_len: usize,
-    damaged: &[u8],
-) -> usize {
-    let started = steps::start_caller(0, plan.te as u32);
-    let Started::Ready(first) = started else {
-        return at;
+fn run(plan: Plan, first: Session, damaged: &[u8]) -> Ends {
+    let caller = line::with_cm(line::line_start(first, plan));
+    let answerer = line::line_start(steps::start_answerer(0), plan);
+    ladder::entered(caller, 0);
+    ladder::entered(answerer, 0);
+    let mut ends = Ends {
+        caller: caller,
+        answerer: answerer,
     };
-    let own = plans::record_of(plan, steps::ANSWERER);
-    let mut caller = line::line_start(first, cm, cm_len);
-    let mut answerer = line::line_start(steps::start_answerer(0), cm, 0);
-    let mut caller_bits = [1u8; line::MOST_BITS];
-    let mut answerer_bits = [1u8; line::MOST_BITS];
-    let mut caller_ear = listening::fresh_line();
-    let mut answerer_ear = listening::fresh_line();
-    let mut n = at;
-    let mut next: u32 = 0;
-    while next < BIT_TIMES {
-        let time = next;
-        let now = time * 10 / 3;
-        next += 1;
-        let across = answerer.session;
-        caller = line::line_tick(caller, tone_of(across.state), now);
-        answerer = line::line_tick(answerer, line::NO_EVENT, now);
-        caller = line::line_bit(caller, &mut caller_bits, now);
-        answerer = line::line_bit(answerer, &mut answerer_bits, now);
-        let by_answerer = listening::hear(
-            answerer_ear,
-            arriving(caller.bit, damaged, plans::bit_place(steps::CALLER, time)),
-        );
-        let by_caller = listening::hear(
-            caller_ear,
-            arriving(
-                answerer.bit,
-                damaged,
-                plans::bit_place(steps::ANSWERER, time),
-            ),
-        );
-        answerer_ear = by_answerer.rec;
-        caller_ear = by_caller.rec;
-        let at_answerer = answerer_ear.msg;
-        let at_caller = caller_ear.msg;
-        let a_octets = at_answerer.octets;
-        let c_octets = at_caller.octets;
-        let a_heard = line::octets_in(&a_octets, at_answerer.len);
-        let c_heard = line::octets_in(&c_octets, at_caller.len);
-        let a_report = by_answerer.report;
-        let c_report = by_caller.report;
-        answerer = line::line_hear(answerer, own, line::told_of(a_report), a_heard, now);
-        caller = line::line_hear(caller, own, line::told_of(c_report), c_heard, now);
-        n = ladder::show(page, n, now, caller, c_heard);
-        n = ladder::show(page, n, now, answerer, a_heard);
-        if is_over(caller.session, answerer.session) {
-            return ladder::put_ending(page, n, caller.session, answerer.session);
+    let mut time: u32 = 0;
+    while time < BIT_TIMES {
+        ends = bit_time(ends, damaged, time);
+        if is_over(ends) {
+            return ends;
         }
+        time += 1;
     }
-    ladder::put_ending(page, n, caller.session, answerer.session)
+    ends
 }
 
-// The plan as it was understood, and the ladder of its call.
-fn put_call(page: &mut [u8], text: &[u8], plan: Plan) -> usize {
-    let mut damaged = [0u8; LINE_BITS];
-    let mut cm = [0u8; 7];
-    let len = line::count_of(offers::make_cm(
-        plans::record_of(plan, steps::CALLER),
-        plan.function,
-        &mut cm,
-    ));
-    if len == 0 {
-        return put_words(page, 0, words::NO_CM, 0);
+// The ladder of a call, and how it ended.
+fn put_ladder(plan: Plan, first: Session, damaged: &[u8]) {
+    say(put_words(blank(), words::HEADING, 0));
+    let ends = run(plan, first, damaged);
+    if is_over(ends) {
+        say(ladder::ending(ends.caller.session, ends.answerer.session));
+        return;
     }
+    say(put_words(blank(), words::BOTH, steps::GOING));
+}
+
+// The plan as it was understood.
+fn put_plan(plan: Plan, damaged: &[u8]) {
+    let mut page = room();
+    let n = plans::put_plan(&mut page, 0, plan, damaged);
+    io::write_all(STDOUT_FILENO, line::part(&page, n));
+}
+
+// The plan, and the ladder of its call. A plan has a Te that a caller starts with.
+fn call(text: &[u8], plan: Plan) {
+    let mut damaged = undamaged();
     plans::mark(text, &mut damaged);
-    let n = plans::put_plan(page, 0, plan, &damaged);
-    let m = put_text(
-        page,
-        n,
-        b"
-   ms  caller                                                                         answerer
-",
-    );
-    run(page, m, plan, cm, len, &damaged)
-}
-
-fn has_word(word: &[u8]) -> u8 {
-    if word.len() == 0 {
-        return 0;
+    put_plan(plan, &damaged);
+    say(blank());
+    let started = steps::start_caller(0, plan.te as u32);
+    match started {
+        Started::Ready(first) => put_ladder(plan, first, &damaged),
+        Started::Refused(_) => {}
     }
-    1
 }
 
 // A byte as it is shown.
 fn shown(b: u8) -> u8 {
-    if b < b' ' || b'~' < b {
-        return b'?';
+    match b {
+        b' '..=b'~' => b,
+        _ => b'?',
     }
-    b
 }
 
-// A word, cut off where it is long.
-fn put_word(page: &mut [u8], at: usize, word: &[u8]) -> usize {
-    let mut n = at;
+fn put_word(text: Text, word: &[u8]) -> Text {
+    let mut next = text;
     let mut i: usize = 0;
     while i < word.len() {
-        if MOST_SHOWN <= i {
-            return n;
-        }
-        n = words::put(page, n, shown(word[i]));
+        next = words::put(next, shown(word[i]));
         i += 1;
     }
-    n
+    next
 }
 
-// What is wrong with a text.
-fn put_mistake(page: &mut [u8], text: &[u8], what: u8, at: usize) -> usize {
-    if plans::NO_CALLER <= what && what <= plans::NO_CALL {
-        return put_words(page, 0, words::MISTAKES, what);
+// Where a mistake stands in its line: at a word, which is cut off where it is long, or at the end.
+fn put_place(text: Text, word: &[u8]) -> Text {
+    if word.len() == 0 {
+        return put_words(text, words::AT_END, 0);
     }
-    let word = plans::word_at(text, at);
-    let more = has_word(word);
-    let mut n = put_words(page, 0, words::LINE, 0);
-    n = printing::put_decimal(page, n, 1 + plans::lines_before(text, at) as u64);
-    n = put_words(page, n, words::BEFORE_WORD, more);
-    n = put_word(page, n, word);
-    n = put_words(page, n, words::BEHIND_WORD, more);
-    put_words(page, n, words::MISTAKES, what)
-}
-
-// What a call text looks like.
-fn put_help(page: &mut [u8]) -> usize {
-    words::put_lines(
-        page,
+    let len = ladder::least(word.len(), MOST_SHOWN);
+    let before = put_words(text, words::BEFORE_WORD, 0);
+    put_words(
+        put_word(before, line::part(word, len)),
+        words::BEHIND_WORD,
         0,
-        b"A call text says what both ends can do, and what the caller calls for:
-
-    caller    data V.34 V.32bis V.22bis V.21, wants LAPM   # a comment
-    answerer  data V.32bis V.22bis V.26ter
-    call      data
-
-An end has functions, each with its modulations behind it. The first is its home function, or the one
-behind 'home'. Two lines may be there too: Te in milliseconds, and bits that arrive inverted, where
-bit n is sent n * 10 / 3 ms after the call began:
-
-    Te        500
-    damaged   caller 485 609
-
-Lines:\x01\x02
-Functions:\x03
-Modulations:\x04\x05
-Of an end:\x06\x08
-Wanted:\x07
-Told of an access group:\x09",
-        0,
-        255,
     )
 }
 
-fn put_answer(page: &mut [u8], text: &[u8]) -> usize {
-    if text.len() == 0 {
-        return put_help(page);
+// Where a mistake stands in a text.
+fn place(text: &[u8], at: usize) -> Text {
+    let line = put_words(blank(), words::LINE, 0);
+    let number = 1 + plans::lines_before(text, at) as u64;
+    put_place(
+        words::put_number(line, line.len, number),
+        plans::word_at(text, at),
+    )
+}
+
+// A mistake; a text that lacks a line has no place for it.
+fn mistake(text: &[u8], what: u8, at: usize) -> Text {
+    let before = match what {
+        plans::NO_CALLER => blank(),
+        plans::NO_ANSWERER => blank(),
+        plans::NO_CALL => blank(),
+        _ => place(text, at),
+    };
+    words::put_all(before, words::MISTAKES, what)
+}
+
+// What a call text looks like.
+fn help() {
+    let mut i: u8 = 0;
+    while i < HELP_LINES {
+        say(words::put_all(blank(), words::HELP, i));
+        i += 1;
     }
-    if TEXT <= text.len() {
-        return put_words(page, 0, words::TOO_LONG, 0);
-    }
+}
+
+// A text: its call, or the first mistake in it.
+fn rehearse(text: &[u8]) {
     let read = plans::read(text);
-    if read.what != 0 {
-        return put_mistake(page, text, read.what, read.at);
+    let what = read.what;
+    match what {
+        0 => call(text, read.plan),
+        _ => say(mistake(text, what, read.at)),
     }
-    put_call(page, text, read.plan)
 }
 
 fn answer(text: &[u8]) {
-    let mut page = [b' '; PAGE];
-    let n = put_answer(&mut page, text);
-    let m = put_text(&mut page, n, b"\n");
-    io::write_all(STDOUT_FILENO, line::part(&page, m));
+    let len = text.len();
+    match len {
+        0 => help(),
+        ROOM.. => say(put_words(blank(), words::TOO_LONG, 0)),
+        _ => rehearse(text),
+    }
 }
 
 fn main() {
-    let mut text = [0u8; TEXT];
+    let mut text = room();
     let n = io::read_full(STDIN_FILENO, &mut text);
     answer(&text[..n]);
 }

@@ -1,101 +1,119 @@
-// Every text that is printed, a line for each, and a way to print one of them.
+// Every text that is printed, a line for each in one table, and texts as they are put together. A text is a value: it is handed on and
+// comes back longer, which is proved in far less time than a page that is lent from function to function.
 use std::num::wrapping_add_u8;
 
-// Where texts stand in the table; those of a group are counted from there. States and what is heard have their words from 1 on.
+// Room for the longest line: a menu of 64 octets with every name, or a mistake with every name that is expected.
+pub const ROOM: usize = 640;
+
+// A text: its bytes, and blanks behind them.
+pub struct Text {
+    pub bytes: [u8; ROOM],
+    pub len: usize,
+}
+
+// Where texts stand in the table; those of a group are counted from there. The words for what happens are those of the states, by their
+// numbers, and behind them those of the reports; each has its arrow. What an end sends goes by its state, and behind the last state by
+// how the session ended.
 pub const WORDS: u8 = 0;
 
-pub const CHOICES: u8 = 14;
+pub const ARROWS: u8 = 29;
 
-pub const SENDS: u8 = 40;
+pub const SENDS: u8 = 58;
 
-pub const CI: u8 = 51;
+pub const OUTCOMES: u8 = 68;
 
-pub const MENUS: u8 = 51;
+pub const BOTH: u8 = 74;
 
-pub const CJ: u8 = 54;
+pub const ENDS_DIFFER: u8 = 80;
 
-pub const AGREED: u8 = 55;
+pub const ANSWERER: u8 = 81;
 
-pub const REFUSALS: u8 = 55;
+pub const MENUS: u8 = 82;
 
-pub const OUTCOMES: u8 = 69;
+pub const HEARD: u8 = 85;
 
-pub const GO_ON_BOTH: u8 = 75;
+pub const CHOICES: u8 = 103;
 
-pub const BOTH_ENDS: u8 = 76;
+pub const MODES: u8 = 128;
 
-pub const ENDS_DIFFER: u8 = 77;
+pub const OPTIONS: u8 = 130;
 
-pub const ANSWERER: u8 = 78;
+pub const LINE: u8 = 134;
 
-pub const NOT_OVER: u8 = 79;
+pub const AT_END: u8 = 135;
 
-pub const OPTIONS: u8 = 80;
+pub const BEFORE_WORD: u8 = 136;
 
-pub const COLON: u8 = 84;
+pub const BEHIND_WORD: u8 = 137;
 
-pub const MISTAKES: u8 = 85;
+pub const MISTAKES: u8 = 138;
 
-pub const LINE: u8 = 105;
+pub const TOO_LONG: u8 = 158;
 
-pub const BEFORE_WORD: u8 = 106;
+pub const HEADING: u8 = 159;
 
-pub const BEHIND_WORD: u8 = 108;
+pub const HELP: u8 = 160;
 
-pub const TOO_LONG: u8 = 110;
-
-pub const ARROWS: u8 = 111;
-
-pub const NO_CM: u8 = 113;
-
-// The line of the byte behind a byte.
-fn line_behind(line: u8, b: u8) -> u8 {
-    if b == b'\n' {
-        return wrapping_add_u8(line, 1);
+// A text with nothing in it.
+pub fn blank() -> Text {
+    Text {
+        bytes: [b' '; ROOM],
+        len: 0,
     }
-    line
 }
 
-// A byte, where there is room.
-pub fn put(out: &mut [u8], at: usize, b: u8) -> usize {
-    if at < out.len() {
-        out[at] = b;
-        return at + 1;
+// A byte behind a text, where there is room.
+pub fn put(text: Text, b: u8) -> Text {
+    let at = text.len;
+    let mut next = text;
+    if at < ROOM {
+        next.bytes[at] = b;
+        next.len = at + 1;
     }
-    at
+    next
 }
 
-// Puts the lines of a text from one to another, the first at 0. The number of a kind stands for its names.
-pub fn put_lines(out: &mut [u8], at: usize, text: &[u8], first: u8, last: u8) -> usize {
-    let mut n = at;
+// The names of a kind that are in a set.
+fn put_names(text: Text, kind: u8, set: u16) -> Text {
+    let mut bytes = text.bytes;
+    let len = names::put_names(&mut bytes, text.len, kind, set);
+    Text {
+        bytes: bytes,
+        len: len,
+    }
+}
+
+// A byte of the table: the number of a kind stands for its names in the set of that kind. A line feed is the number of no kind.
+fn put_byte(text: Text, b: u8, sets: [u16; 11]) -> Text {
+    if b <= b'\n' {
+        return put_names(text, b, sets[b as usize]);
+    }
+    put(text, b)
+}
+
+// A line of a table behind a text.
+fn put_line(text: Text, table: &[u8], number: u8, sets: [u16; 11]) -> Text {
+    let mut next = text;
     let mut line: u8 = 0;
     let mut i: usize = 0;
-    while i < text.len() {
-        let b = text[i];
-        let of = line;
+    while i < table.len() {
+        let b = table[i];
         i += 1;
-        line = line_behind(line, b);
-        if of < first {
-            continue;
+        if line == number {
+            next = put_byte(next, b, sets);
         }
-        if last < line {
-            return n;
-        }
-        if b < b'\n' {
-            n = names::put_names(out, n, b, 65535);
-            continue;
-        }
-        n = put(out, n, b);
+        line = match b {
+            b'\n' => wrapping_add_u8(line, 1),
+            _ => line,
+        };
     }
-    n
+    next
 }
 
-// Puts a text of the table: one of a group.
-pub fn put_words(out: &mut [u8], at: usize, group: u8, number: u8) -> usize {
-    let line = wrapping_add_u8(group, number);
-    put_lines(
-        out,
-        at,
+// A text of the table behind another: one of a group, with the names of each kind that are in these sets.
+pub fn put_named(text: Text, group: u8, number: u8, sets: [u16; 11]) -> Text {
+    put_line(
+        text,
         b"
 still
 calling
@@ -107,9 +125,98 @@ still
 answering
 joint
 over
+
+hears
 hears
 agreed
+hears
 refused
+refused
+refused
+refused
+refused
+refused
+refused
+refused
+refused
+refused
+refused
+refused
+refused
+
+
+
+
+----------------------------------------------------------------->
+----------------------------------------------------------------->
+
+
+<-----------------------------------------------------------------
+<-----------------------------------------------------------------
+
+
+
+
+
+
+
+
+
+
+
+
+
+
+
+
+
+
+
+\x20
+\x20
+\x20
+\x20
+ CM\x03
+ CJ
+\x20
+\x20
+ ANSam
+ JM\x03
+
+ left
+ gave up, late
+ cleared, no mode is shared
+ ended, the choice was not offered
+ goes on with
+the call is not over after 30 seconds
+both ends left
+both ends gave up, late
+both ends cleared, no mode is shared
+both ends ended, the choice was not offered
+both ends go on with
+the ends differ: the caller
+; the answerer
+
+ JM\x03
+ CM\x03
+
+ CI\x03
+
+
+ CJ
+ refusal 1
+ refusal 2
+ refusal 3
+ refusal 4
+ refusal 5
+ refusal 6
+ refusal 7
+ refusal 8
+ refusal 9
+ refusal 10
+ refusal 11
+ refusal 12
+ refusal 13
  no shared mode
  item 1 (V.34 duplex)
  item 2 (V.34 half duplex)
@@ -136,52 +243,16 @@ refused
  PCM (answerer analogue, answerer digital, V.91)
  a choice that is refused (11)
 
-
-
-
-
- CM
- CJ
-
-
- ANSam
- JM
-
- CI
- JM
- CM
- CJ
-
- refusal 1
- refusal 2
- refusal 3
- refusal 4
- refusal 5
- refusal 6
- refusal 7
- refusal 8
- refusal 9
- refusal 10
- refusal 11
- refusal 12
- refusal 13
-
- left
- gave up, late
- cleared, no mode is shared
- ended, the choice was not offered
- goes on with
- go on with
-both ends
-the ends differ: the caller
-; the answerer
-the call is not over after 30 seconds
+:\x04
 
 , LAPM
-, access
-, LAPM, access
+, access\x09
+, LAPM, access\x09
+line\x20
+, at its end:\x20
+, '
+':\x20
 
-:
 expected a line that begins with one of:\x01\x02
 expected a function:\x03; a modulation:\x04\x05; or one of:\x06\x08; behind wants:\x07
 expected the home function, one of:\x03
@@ -201,16 +272,48 @@ the text ends without a line 'caller'
 the text ends without a line 'answerer'
 the text ends without a line 'call'
 the caller has not the function of the call
-line\x20
-, at its end
-, '
-:\x20
-':\x20
 the text is longer than 131071 bytes
-<-----------------------------------------------------------------
------------------------------------------------------------------>
-the caller can make no CM for its call",
-        line,
-        line,
+   ms  caller                                                                         answerer
+A call text says what both ends can do, and what the caller calls for:
+
+    caller    data V.34 V.32bis V.22bis V.21, wants LAPM   # a comment
+    answerer  data V.32bis V.22bis V.26ter
+    call      data
+
+An end has functions, each with its modulations behind it. The first is its home function, or the one
+behind 'home'. Two lines may be there too: Te in milliseconds, and bits that arrive inverted, where
+bit n is sent n * 10 / 3 ms after the call began:
+
+    Te        500
+    damaged   caller 485 609
+
+Lines:\x01\x02
+Functions:\x03
+Modulations:\x04\x05
+Of an end:\x06\x08
+Wanted:\x07
+Told of an access group:\x09",
+        wrapping_add_u8(group, number),
+        sets,
     )
+}
+
+// The same with no names.
+pub fn put_words(text: Text, group: u8, number: u8) -> Text {
+    put_named(text, group, number, [0; 11])
+}
+
+// The same with every name.
+pub fn put_all(text: Text, group: u8, number: u8) -> Text {
+    put_named(text, group, number, [65535; 11])
+}
+
+// A number in decimal digits, from a column on.
+pub fn put_number(text: Text, column: usize, number: u64) -> Text {
+    let mut bytes = text.bytes;
+    let len = printing::put_decimal(&mut bytes, column, number);
+    Text {
+        bytes: bytes,
+        len: len,
+    }
 }

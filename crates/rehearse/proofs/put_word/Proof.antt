@@ -1,26 +1,19 @@
--- `rehearse::put_word` is safe and ends. Invariant: the page is as long as it was lent.
+-- `rehearse::put_word` is safe and ends. Invariant: the place is at most that behind the end.
 -- Assumes nothing.
 use borrow.Author.Needs.{needs}
-use Prim.Native.Nat.{_-_}
-use mathlib.Core.Path.{_≡_}
+use Prim.Native.Nat.{_≤_, _-_}
 use lib.ListN.{length}
 use Rattle.rehearse.proofs.put_word.Statement.{statement}
 use Rattle.rehearse.proofs.put_word.Tie as tie
 
 abbrev Inv-loop : tie.InvT-loop
-Inv-loop page₀ at word n₀ i₀ page n i = length page ≡ length page₀
+Inv-loop word next₀ i₀ next i = i ≤ length word
 
 abbrev μ-loop : tie.MeasureT-loop
-μ-loop page₀ at word n₀ i₀ page n i = length word - i
+μ-loop word next₀ i₀ next i = length word - i
 
 loop-holds : tie.Need-loop-holds Inv-loop μ-loop
 loop-holds c = search needs
-
-same-length : tie.Need-same-length Inv-loop μ-loop
-same-length c = search needs
-
-returns : tie.Need-returns Inv-loop μ-loop
-returns c = search needs
 
 shared-slice-read-shown : tie.Need-shared-slice-read-shown Inv-loop μ-loop
 shared-slice-read-shown c = search needs
@@ -40,11 +33,8 @@ loop-less c = search needs
 loop-again : tie.Need-loop-again Inv-loop μ-loop
 loop-again c = search needs
 
-same-length-2 : tie.Need-same-length-2 Inv-loop μ-loop
-same-length-2 c = search needs
-
-returns-2 : tie.Need-returns-2 Inv-loop μ-loop
-returns-2 c = search needs
+returns : tie.Need-returns Inv-loop μ-loop
+returns c = search needs
 
 pub put-word-spec : {M : Type 1} → statement M
 put-word-spec =
@@ -53,13 +43,10 @@ put-word-spec =
     Inv-loop
     μ-loop
     loop-holds
-    same-length
-    returns
     shared-slice-read-shown
     shown-requires
     put-requires
     add-i
     loop-less
     loop-again
-    same-length-2
-    returns-2)
+    returns)

@@ -1,4 +1,4 @@
--- `rehearse::ladder::put_octets` is safe and ends. Invariant: the page is as long as it was lent.
+-- `rehearse::ladder::put_octets` is safe and ends. Invariant: the text is as long as it was.
 -- Assumes nothing.
 use borrow.Author.Needs.{needs}
 use Prim.Native.Nat.{_-_}
@@ -8,19 +8,25 @@ use Rattle.rehearse.proofs.ladder.put_octets.Statement.{statement}
 use Rattle.rehearse.proofs.ladder.put_octets.Tie as tie
 
 abbrev Inv-loop : tie.InvT-loop
-Inv-loop out₀ at octets n₀ i₀ t6 out n i = length out ≡ length out₀
+Inv-loop octets bytes₀ n₀ i₀ bytes n i = length bytes ≡ 640
 
 abbrev μ-loop : tie.MeasureT-loop
-μ-loop out₀ at octets n₀ i₀ t6 out n i = length octets - i
+μ-loop octets bytes₀ n₀ i₀ bytes n i = length octets - i
+
+least-requires : tie.Need-least-requires Inv-loop μ-loop
+least-requires c κs = search needs
+
+wrapping-add-usize-requires : tie.Need-wrapping-add-usize-requires Inv-loop μ-loop
+wrapping-add-usize-requires c κs = search needs
 
 loop-holds : tie.Need-loop-holds Inv-loop μ-loop
 loop-holds c = search needs
 
-slice-aggregate-put-text : tie.Need-slice-aggregate-put-text Inv-loop μ-loop
-slice-aggregate-put-text c = search needs
+slice-aggregate-put-octet : tie.Need-slice-aggregate-put-octet Inv-loop μ-loop
+slice-aggregate-put-octet c = search needs
 
-put-text-requires : tie.Need-put-text-requires Inv-loop μ-loop
-put-text-requires c κs = search needs
+wrapping-add-usize-requires-2 : tie.Need-wrapping-add-usize-requires-2 Inv-loop μ-loop
+wrapping-add-usize-requires-2 c κs = search needs
 
 shared-slice-read-put-octet : tie.Need-shared-slice-read-put-octet Inv-loop μ-loop
 shared-slice-read-put-octet c = search needs
@@ -37,9 +43,6 @@ loop-less c = search needs
 loop-again : tie.Need-loop-again Inv-loop μ-loop
 loop-again c = search needs
 
-same-length : tie.Need-same-length Inv-loop μ-loop
-same-length c = search needs
-
 returns : tie.Need-returns Inv-loop μ-loop
 returns c = search needs
 
@@ -49,13 +52,14 @@ put-octets-spec =
     (tie.spec
     Inv-loop
     μ-loop
+    least-requires
+    wrapping-add-usize-requires
     loop-holds
-    slice-aggregate-put-text
-    put-text-requires
+    slice-aggregate-put-octet
+    wrapping-add-usize-requires-2
     shared-slice-read-put-octet
     put-octet-requires
     add-i
     loop-less
     loop-again
-    same-length
     returns)
