@@ -1,4 +1,4 @@
--- `rehearse::help` is safe and ends. Invariant
+-- `rehearse::help` is safe and ends. Invariant: at most all its lines are told.
 -- Assumes nothing.
 use borrow.Author.Needs.{needs}
 use Prim.Native.Nat.{_≤_, _-_}

@@ -1,4 +1,4 @@
--- `rehearse::ladder::piece_end` is safe and ends. Invariant: the end stands behind the blank at the front, and within the text.
+-- `rehearse::ladder::piece_end` meets its contract, and ends. Invariant: the end stands behind the blank at the front, and within the text.
 -- Assumes nothing.
 use borrow.Author.Needs.{needs}
 use Prim.Native.Nat.{_<_, _≤_}

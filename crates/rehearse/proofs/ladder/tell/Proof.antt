@@ -1,4 +1,4 @@
--- `rehearse::ladder::tell` is safe and ends. Invariant:
+-- `rehearse::ladder::tell` is safe and ends. Invariant: what is told stands before the end of the text.
 -- Assumes nothing.
 use borrow.Author.Needs.{needs}
 use Prim.Native.Nat.{_≤_, _-_}

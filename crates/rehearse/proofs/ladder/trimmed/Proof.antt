@@ -1,4 +1,4 @@
--- `rehearse::ladder::trimmed` is safe and ends. Invariant: what is left of the text is no longer than it.
+-- `rehearse::ladder::trimmed` meets its contract, and ends. Invariant: what is left of the text is no longer than it.
 -- Assumes nothing.
 use borrow.Author.Needs.{needs}
 use Prim.Native.Nat.{_≤_}
