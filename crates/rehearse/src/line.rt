@@ -1,5 +1,5 @@
-// An end of the call: what a host keeps for each line, and what it does with events, reports and bits. It is the loop of
-// examples/line.c: what has the same name there does the same.
+// An end of the call: what a host keeps for each line, and what it does with events, reports and bits. examples/line.c hands over the same
+// events at the same places; its bits are laid out otherwise, with CJ right behind the copy and no 1 behind that.
 use super::ladder;
 use listening::Heard;
 use listening::Listener;
