@@ -143,22 +143,31 @@ answerer='answerer data V.32bis V.22bis V.26ter'
 whole="$caller\n$answerer\ncall data\n"
 
 same 'one blank between words' "$whole"
-same 'the order of the lines is free' "call data\nTe 500\n$answerer\n$caller\n"
+same 'the order of the lines is free' "call data\nTe 1000\n$answerer\n$caller\n"
 same 'the last line feed is missing' "$caller\n$answerer\ncall data"
 same 'CR LF' "$caller\r\n$answerer\r\ncall data\r\n"
 same 'comments, empty lines, blanks' "# a call\n\n  \t\n$caller# the logger\n\t$answerer #, V.21\n \tcall \t data \n#end"
-same 'upper and lower case' "CALLER Data v.34 V.32BIS v.22Bis V.21 Wants lapm\nAnswerer DATA v.32bis v.22bis V.26TER\nCALL dAtA\ntE 500"
+same 'upper and lower case' "CALLER Data v.34 V.32BIS v.22Bis V.21 Wants lapm\nAnswerer DATA v.32bis v.22bis V.26TER\nCALL dAtA\ntE 1000"
 same 'no commas' "${caller//,/}\n$answerer\ncall data\n"
 same 'commas everywhere' ",${caller// /,,}, ,\n,\n,${answerer// /,},\ncall,data,\n,"
 same 'modes in another order' "caller data V.21 V.34 V.22bis V.32bis wants LAPM\nanswerer data V.26ter V.22bis V.32bis\ncall data"
 same 'what is wanted first' "caller wants LAPM data V.34 V.32bis V.22bis V.21\n$answerer\ncall data"
 same 'the home function written out' "$caller, home data\nanswerer home data, data V.32bis V.22bis V.26ter\ncall data"
-same 'Te written out' "${whole}Te 500\n"
-same 'Te with leading zeros' "Te 000500\n$whole"
+same 'Te written out' "${whole}Te 1000\n"
+same 'Te with leading zeros' "Te 001000\n$whole"
 same 'other names of modes' "${caller//bis/}\nanswerer data V.32 V.22 V.26ter\ncall data"
 text "damaged answerer 0\n${whole}damaged caller 8999, 0\nDamaged Answerer 00 0\n"
 sed '/^Te/a damaged   caller 0 8999\ndamaged   answerer 0' "$calls/v32bis.timeline" >"$work/expected"
 check "$program" 'damage that hits no bit that counts' "$work/input" "$work/expected" "${pieces[@]}"
+
+# A Te that a line gives is kept: with 500 for 1,000, CM and all that follows come half a second sooner.
+text "${whole}Te 500\n"
+awk '
+    /^Te / { sub(/1000/, "500") }
+    /^ *[0-9]+  / && $1 > 1000 { $0 = sprintf("%5d", $1 - 500) substr($0, 6) }
+    { print }
+' "$calls/v32bis.timeline" >"$work/expected"
+check "$program" 'a Te of 500 that is given' "$work/input" "$work/expected" "${pieces[@]}"
 
 every_function=''
 for function in $functions; do
@@ -170,7 +179,7 @@ understood 'every name, in upper and in lower case' \
     "CALLER${every_function^^}${tail^^}\nanswerer$reversed${every_function,,}\ncall textphone\nTe 5000" \
     "caller   $every_function$tail\nanswerer $every_function$tail\ncall      textphone\nTe        5000"
 understood 'the first function is the home function' "answerer videotex, H.324\ncaller data, textphone V.21\ncall textphone" \
-    'caller    textphone V.21, data, home data\nanswerer  H.324, videotex, home videotex\ncall      textphone\nTe        500'
+    'caller    textphone V.21, data, home data\nanswerer  H.324, videotex, home videotex\ncall      textphone\nTe        1000'
 understood 'sixteen damaged bits in a line' "damaged caller $(seq -s ' ' 17 -1 1)\n${whole}damaged answerer $(seq -s ' ' 16)" \
     "$(plan <"$calls/v32bis.timeline")\ndamaged   caller $(seq -s ' ' 16)\ndamaged   caller 17\ndamaged   answerer $(seq -s ' ' 16)"
 
@@ -312,7 +321,7 @@ random_call() {
             srand(seed); split(functions, function_of, " "); split(modes, mode_of, " "); called = 1 + below(6)
             print end("caller", called); print end("answerer", 1 + below(6)); print "call " function_of[called]
             if (below(2)) print "Te " 500 + below(4501)
-            for (i = below(40); i > 0; i--) print "damaged " (below(2) ? "caller " : "answerer ") 450 + below(700)
+            for (i = below(40); i > 0; i--) print "damaged " (below(2) ? "caller " : "answerer ") 600 + below(700)
         }'
 }
 for ((n = 1; n <= 100; n++)); do
@@ -347,7 +356,7 @@ for ((n = 1; n <= 40; n++)); do
     survives "random bytes, run $n"
     { printf 'caller data '; random "$n" "$n" ' ' "${words[@]}" $'\n' data V.34 home wants; } >"$work/input"
     survives "random words, run $n"
-    { printf '%b' "$whole"; random "$n" "$n" $'\n' 'damaged caller 460 531' 'damaged answerer 610' '# Te' ''; } >"$work/input"
+    { printf '%b' "$whole"; random "$n" "$n" $'\n' 'damaged caller 610 681' 'damaged answerer 760' '# Te' ''; } >"$work/input"
     survives "random lines behind a call, run $n"
 done
 

@@ -1,9 +1,10 @@
-//! Document 01 as a plain Rust program: what each call must answer, written for reading. It shares no code with the library, with
-//! the wrappers around it or with the Rust that the library is timed against. Where the page leaves room it follows
-//! `docs/DECISIONS.md`, as the library does: a comparison of the two tells whether both keep to the page as it is read there, and not
-//! whether that reading is right.
+//! Document 01, with the requests of document 02 that are in force, as a plain Rust program: what each call must answer, written for
+//! reading. It shares no code with the library, with the wrappers around it or with the Rust that the library is timed against.
+//! Where the pages leave room it follows `docs/DECISIONS.md`, as the library does: a comparison of the two tells whether both keep to
+//! the pages as they are read there, and not whether that reading is right.
 //!
-//! The modules follow the sections of the page. What a comment has in double quotes is its text.
+//! The modules follow the sections of document 01. What a comment has in double quotes is the text of a page, of document 01 where no
+//! request is named.
 
 mod bits;
 mod choice;
@@ -23,7 +24,7 @@ pub use steps::{Answer, End, Ended, Event, Session, State};
 #[derive(Clone, Copy, Debug, PartialEq, Eq)]
 pub struct Refusal(pub u8);
 
-/// The reading of document 01: the honest one, or one that makes a mistake.
+/// The reading of the documents: the honest one, or one that makes a mistake.
 #[derive(Clone, Copy, Debug, Default)]
 pub struct Model {
     mistake: Option<Mistake>,
@@ -72,11 +73,13 @@ pub enum Mistake {
     MoreThan,
     /// The clock is tested before the event.
     ClockFirst,
+    /// Te is 500 without a value, as it was before request 01.
+    DefaultTe500,
 }
 
 impl Mistake {
     /// Every mistake with the name that it is asked for by.
-    pub const ALL: [(&str, Mistake); 14] = [
+    pub const ALL: [(&str, Mistake); 15] = [
         ("room-for-one", Mistake::RoomForOne),
         ("nine-ones", Mistake::NineOnes),
         ("octet-55", Mistake::Octet55),
@@ -91,5 +94,6 @@ impl Mistake {
         ("half-range", Mistake::HalfRange),
         ("more-than", Mistake::MoreThan),
         ("clock-first", Mistake::ClockFirst),
+        ("default-te-500", Mistake::DefaultTe500),
     ];
 }

@@ -9,7 +9,7 @@ use std::{
     process::{Command, Stdio},
 };
 use tailsprig::{
-    model::{Choice, Function, Kind, Menu, Model, Record, Refusal},
+    model::{Choice, End, Function, Kind, Menu, Model, Record, Refusal, Session},
     numbers, text,
 };
 
@@ -160,12 +160,19 @@ fn plain_record(own: &Record) -> String {
 }
 
 impl Call {
+    /// How long the caller is quiet: as the text gives it, or as the model starts a caller without a value.
+    fn te(&self) -> usize {
+        self.te.unwrap_or_else(|| match Model::default().start_caller(0, None) {
+            Ok(Session { end: End::Caller { te }, .. }) => te as usize,
+            other => panic!("no caller: {other:?}"),
+        })
+    }
+
     /// The plan that stands above the ladder.
     fn plain(&self) -> String {
         let [caller, answerer] = self.ends.each_ref().map(plain_record);
-        let te = self.te.unwrap_or(500);
-        let mut plan =
-            format!("caller    {caller}\nanswerer  {answerer}\ncall      {}\nTe        {te}\n", name(self.function));
+        let (function, te) = (name(self.function), self.te());
+        let mut plan = format!("caller    {caller}\nanswerer  {answerer}\ncall      {function}\nTe        {te}\n");
         for (end, bits) in ENDS.iter().zip(&self.damaged) {
             let bits: Vec<String> = bits.iter().map(usize::to_string).collect();
             for line in bits.chunks(16) {
@@ -305,6 +312,7 @@ fn rehearsed(call: &str) -> String {
 
 /// What happens to an end, with the text for it, which may take several rows.
 struct Event {
+    now: u32,
     answerer: bool,
     what: String,
     text: Vec<String>,
@@ -321,6 +329,11 @@ impl Ladder {
     fn first(&self, what: &str) -> Option<String> {
         let mut events = self.events.iter().filter(|event| event.answerer && event.what == what);
         events.next().map(|event| event.text.join(" "))
+    }
+
+    /// When an end first tells of this.
+    fn at(&self, what: &str) -> u32 {
+        self.events.iter().find(|event| event.what == what).unwrap_or_else(|| panic!("no {what}")).now
     }
 
     /// What an end sends when it enters a state; it does so once.
@@ -361,7 +374,8 @@ fn plan_and_ladder<'a>(call: &str, printed: &'a str) -> (&'a str, Ladder) {
         assert!(before <= now && now < 30_000, "{row}: {call}");
         assert!(caller.is_empty() != answerer.is_empty(), "not one end: {row}: {call}");
         before = now;
-        events.push(Event { answerer: caller.is_empty(), what: caller.to_string() + answerer, text: words.collect() });
+        let what = caller.to_string() + answerer;
+        events.push(Event { now, answerer: caller.is_empty(), what, text: words.collect() });
     }
     let begin: Vec<_> = events.iter().take(2).map(|event| (event.answerer, event.what.as_str())).collect();
     assert_eq!(begin, [(false, "still"), (true, "still")], "{call}{printed}");
@@ -463,6 +477,9 @@ fn ends_as_the_model_says(call: &Call, said: &str, wrong: Option<String>, counts
         Choice::Item(_) => "modes",
         Choice::Pcm(_) => "pcm",
     });
+    // Te has passed at the first tick behind it; they are 3 or 4 ms apart.
+    let quiet = (ladder.at("menu") - ladder.at("quiet")) as usize;
+    assert!((call.te()..call.te() + 4).contains(&quiet), "{said}{printed}");
     assert_eq!(ladder.sent("menu"), Some(shown("CM", &cm)), "{said}{printed}");
     assert_eq!(ladder.sent("joint"), Some(shown("JM", &jm)), "{said}{printed}");
     assert_eq!(ladder.ending, ending(choice), "{said}{printed}");
@@ -577,7 +594,7 @@ fn a_call_over_a_damaged_line_ends_in_a_known_way() {
         }
         let (cm, jm, _) = call.made();
         // Where CM begins; JM does so two copies of it later.
-        let begins = 300 + call.te.unwrap_or(500) * 3 / 10;
+        let begins = 300 + call.te() * 3 / 10;
         let copies = [&cm, &jm].map(|menu| 20 + 10 * menu.len());
         for (end, from) in [begins, begins + 2 * copies[0]].into_iter().enumerate() {
             for _ in 0..random.below(4) {

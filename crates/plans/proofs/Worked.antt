@@ -35,11 +35,11 @@ dataAlone items lapm = record {
 
 abbrev everyName : List ℕ
 everyName =
-    bytes "caller H.324 V.34 V.32bis V.17 V.27ter V.26bis V.23-half-duplex PCM-analogue V.91 textphone V.34 V.34-half-duplex V.32bis V.29-half-duplex V.27ter V.23 V.23-half-duplex PCM-digital V.91 videotex V.34 V.22bis V.17 V.29-half-duplex V.27ter V.21 PCM-analogue PCM-digital V.91 fax-sent V.34 V.26ter V.26bis V.23 V.23-half-duplex V.21 PCM-analogue PCM-digital V.91 fax-received V.34 data V.32 V.22 home fax-received wants access cellular\nanswerer data cellular digital\ncall fax-sent\nTe 1000\ndamaged caller 0 2"
+    bytes "caller H.324 V.34 V.32bis V.17 V.27ter V.26bis V.23-half-duplex PCM-analogue V.91 textphone V.34 V.34-half-duplex V.32bis V.29-half-duplex V.27ter V.23 V.23-half-duplex PCM-digital V.91 videotex V.34 V.22bis V.17 V.29-half-duplex V.27ter V.21 PCM-analogue PCM-digital V.91 fax-sent V.34 V.26ter V.26bis V.23 V.23-half-duplex V.21 PCM-analogue PCM-digital V.91 fax-received V.34 data V.32 V.22 home fax-received wants access cellular\nanswerer data cellular digital\ncall fax-sent\nTe 500\ndamaged caller 0 2"
 
 pub first-call-is-read :
     (recordOf (readText firstCall .plan) 1 ≡ dataAlone 0x101A 1) × (recordOf (readText firstCall .plan) 2 ≡ dataAlone 0x0118 0)
-    × (readText firstCall .plan .function ≡ 6) × (readText firstCall .plan .te ≡ 500)
+    × (readText firstCall .plan .function ≡ 6) × (readText firstCall .plan .te ≡ 1000)
 unfolding bytes names namedBy sameList when both either inSet modesAt anyBad badRecord wordLength numberOn say nameFunction nameHome nameMode endWord isSaid firstWord lacksCall planning functionWord nameWord readWord recordOf recordMistake withHome finishEnd finishLine scanAfter readByte missing finished readFrom markedFrom marked
 first-call-is-read = (refl, refl, refl, refl)
 
@@ -65,7 +65,7 @@ noModesForData = record {
 
 pub every-name-is-read :
     (recordOf (readText everyName .plan) 1 ≡ severalFunctions) × (recordOf (readText everyName .plan) 2 ≡ noModesForData)
-    × (readText everyName .plan .function ≡ 4) × (readText everyName .plan .te ≡ 1000) × (marked everyName (replicate 4 0) ≡ 1 ∷ 0 ∷ 1 ∷ 0 ∷ [])
+    × (readText everyName .plan .function ≡ 4) × (readText everyName .plan .te ≡ 500) × (marked everyName (replicate 4 0) ≡ 1 ∷ 0 ∷ 1 ∷ 0 ∷ [])
 unfolding bytes names namedBy sameList when both either inSet modesAt anyBad badRecord wordLength numberOn say nameFunction nameHome nameMode endWord isSaid firstWord lacksCall planning functionWord nameWord readWord recordOf recordMistake withHome finishEnd finishLine scanAfter readByte missing finished readFrom markedFrom marked
 every-name-is-read = (refl, refl, refl, refl, refl)
 

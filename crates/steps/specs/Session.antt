@@ -29,13 +29,13 @@ isMode value = either (isItem value) (isPcm value)
 abbrev pub isChoice : ℕ → Bool
 isChoice value = either (eqb value 0) (isMode value)
 
--- "Te is 500 to 5,000"
+-- "Te is 500 to 5,000, given at the start"
 abbrev pub isTe : ℕ → Bool
 isTe te = between 500 5000 te
 
--- ".. given at the start; without a value it is 500."
+-- document 02, Req 01: "Without a value, Te becomes 1,000."
 abbrev pub defaultTe : ℕ
-defaultTe = 500
+defaultTe = 1000
 
 -- the two ends
 abbrev pub caller : ℕ

@@ -269,7 +269,7 @@ const LEAST_TE: u32 = 500;
 
 const MOST_TE: u32 = 5000;
 
-pub const DEFAULT_TE: u32 = 500;
+pub const DEFAULT_TE: u32 = 1000;
 
 // Half the range of the clock: a time that is as far away lies before.
 const HALF_RANGE: u32 = 2147483648;

@@ -1,7 +1,7 @@
 //! "Steps".
 use super::{Choice, Mistake, Model, Refusal};
 
-/// "Te is 500 to 5,000, given at the start; without a value it is 500." It is the caller's alone.
+/// "Te is 500 to 5,000, given at the start". It is the caller's alone.
 #[derive(Clone, Copy, Debug, PartialEq, Eq)]
 pub enum End {
     Caller { te: u32 },
@@ -96,9 +96,9 @@ fn carries_what_it_may(event: Event) -> bool {
 }
 
 impl Model {
-    /// 10: "Te out of range".
+    /// "Without a value, Te becomes 1,000." (Req 01). 10: "Te out of range".
     pub fn start_caller(&self, start: u32, te: Option<u32>) -> Result<Session, Refusal> {
-        let te = te.unwrap_or(500);
+        let te = te.unwrap_or(if self.makes(Mistake::DefaultTe500) { 500 } else { 1000 });
         if !(500..=5000).contains(&te) {
             return Err(Refusal(10));
         }
