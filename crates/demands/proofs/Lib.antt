@@ -10,6 +10,7 @@ pub mod BadRecord
 pub mod OneChoice
 pub mod Undefined
 pub mod TableLines
+pub mod QuietBeforeCm
 pub mod WholeCall
 pub mod AnyEvents
 pub mod CallsHappen

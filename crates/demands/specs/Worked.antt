@@ -101,9 +101,9 @@ cmWithPcm = 0xC1 ∷ 0x65 ∷ 0x10 ∷ 0x10 ∷ 0x27 ∷ 0x0D ∷ []
 abbrev jmWithPcm : List ℕ
 jmWithPcm = 0xC1 ∷ 0x65 ∷ 0x10 ∷ 0x10 ∷ 0x47 ∷ 0x8D ∷ []
 
--- quiet, with Te 500
-abbrev pub quietFrom : ℕ → Session
-quietFrom entry = record { entry = entry; te = 500; end = caller; state = quiet; chosen = 0; ended = going }
+-- quiet with this Te, from this time on
+abbrev pub quietFrom : ℕ → ℕ → Session
+quietFrom te entry = record { entry = entry; te = te; end = caller; state = quiet; chosen = 0; ended = going }
 
 -- A's CM on the line: "ten 1s, ten sync bits, then octets. Each octet is 0, then b0 to b7 (b0 first, weight 1), then 1."
 abbrev preamble : List ℕ
@@ -160,9 +160,9 @@ worked =
     -- "buffer of 69 bytes for one copy of A's CM: 6; 70 is enough."
     ∷ writes Menu cmOfA 69 (refusal 6) []
     ∷ writes Menu cmOfA 70 (count 70) lineOfA
-    -- "elapsed from 4,294,967,000 to 79 is 375; to 204 it is 500, and Quiet with Te 500 ends."
+    -- "elapsed from 4,294,967,000 to 79 is 375; to 204 it is 500, and Quiet with Te 500 ends." Document 02, Req 01: it "is one where the value is given."
     ∷ lasts 4294967000 79 375
-    ∷ ticks (quietFrom 4294967000) 79 quiet
+    ∷ ticks (quietFrom 500 4294967000) 79 quiet
     ∷ lasts 4294967000 204 500
-    ∷ ticks (quietFrom 4294967000) 204 menu
+    ∷ ticks (quietFrom 500 4294967000) 204 menu
     ∷ []
