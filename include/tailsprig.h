@@ -38,10 +38,17 @@
 extern "C" {
 #endif
 
-/* The version, as text and as numbers. Programs that were built with another first number have to be built anew. */
-#define TAILSPRIG_VERSION "0.1.0"
+/*
+ * The version, as text and as numbers. Programs that were built with another first number have to be built anew. With
+ * another second number a call may answer otherwise than before; what a host then has to change:
+ *
+ *   0.2.0  tailsprig_start_caller_default gives a Te of 1,000 where it gave 500. A host whose callers cannot be quiet
+ *          that long, as textphones, calls tailsprig_start_caller with TAILSPRIG_TE_TEXTPHONE in its place. A host
+ *          that gives Te has nothing to change.
+ */
+#define TAILSPRIG_VERSION "0.2.0"
 #define TAILSPRIG_VERSION_MAJOR 0
-#define TAILSPRIG_VERSION_MINOR 1
+#define TAILSPRIG_VERSION_MINOR 2
 #define TAILSPRIG_VERSION_PATCH 0
 
 /* ---- Numbers with names ---- */
@@ -415,10 +422,11 @@ int32_t tailsprig_choice(const uint8_t *cm, size_t cm_len, const uint8_t *jm, si
  *     up waiting there needs a timer of its own; it then drops the session.
  *   Ticks.  Time is looked at on a tick alone. V.8 asks for a pause of 75 ms within 5 (8.1.2, 8.2.2, 8.2.3), so in
  *     PAUSE ticks are 5 ms apart or less. Elsewhere a tick that comes late makes the state that much longer.
- *   Te.  How long the caller is quiet: at least 500 ms, and 1,000 or more where echo cancellers have to be disabled
- *     (8.1.1). It counts from the event ANSam; a host that lets a CI end first hands that event over when it has. A Te
- *     near 5,000 outlasts the answerer's ANSam, in which two copies of CM have to be heard as well: the answerer has
- *     left by then.
+ *   Te.  How long the caller is quiet: 500 ms at least, and 1,000 or more where echo cancellers have to be disabled
+ *     (8.1.1). Without a value it is 1,000, since trunks have them. Textphone callers cannot wait that long: they give
+ *     TAILSPRIG_TE_TEXTPHONE. It counts from the event ANSam; a host that lets a CI end first hands that event over
+ *     when it has. A Te near 5,000 outlasts the answerer's ANSam, in which two copies of CM have to be heard as well:
+ *     the answerer has left by then.
  *   Tones.  A line card tells a tone for as long as it hears it, at every tick say, and not only when it begins: ANSam
  *     that is told once, while the caller is in CALLER_STILL, is answered 0 and lost.
  *   Menus.  They are sent until the state changes and never a count of copies: other ends may need more than two.
@@ -490,10 +498,13 @@ struct tailsprig_caller_start {
     int32_t code;                     /* 0, or a refusal n as -n */
 };
 
+/* Te of textphone callers (TAILSPRIG_FUNCTION_TEXTPHONE), for tailsprig_start_caller: the shortest that there is. */
+#define TAILSPRIG_TE_TEXTPHONE 500
+
 /* A caller's session from this time on. Refusal 10: te is not 500 to 5,000. */
 struct tailsprig_caller_start tailsprig_start_caller(uint32_t start, uint32_t te);
 
-/* The same without a value for Te, which then is 500. */
+/* The same without a value for Te, which then is 1,000. Not for textphone callers. */
 struct tailsprig_session tailsprig_start_caller_default(uint32_t start);
 
 /* An answerer's session from this time on. */

@@ -196,11 +196,13 @@ NUMBER(TAILSPRIG_EVENT_SIG_C, 7);
 NUMBER(TAILSPRIG_EVENT_CJ, 8);
 NUMBER(TAILSPRIG_EVENT_TICK, 9);
 
+NUMBER(TAILSPRIG_TE_TEXTPHONE, 500);
+
 NUMBER(TAILSPRIG_ENDED, 16);
 NUMBER(TAILSPRIG_GO_ON, 32);
 
 NUMBER(TAILSPRIG_VERSION_MAJOR, 0);
-NUMBER(TAILSPRIG_VERSION_MINOR, 1);
+NUMBER(TAILSPRIG_VERSION_MINOR, 2);
 NUMBER(TAILSPRIG_VERSION_PATCH, 0);
 
 #endif
@@ -553,6 +555,14 @@ static bool lasts(struct tailsprig_session session)
     return after(&session, TAILSPRIG_EVENT_TICK, 0, 0x7FFFFFFF) == 0;
 }
 
+/* A caller that hears ANSam as soon as it calls is quiet for so long. */
+static bool quiet_lasts(struct tailsprig_session session, uint32_t te)
+{
+    return ends_at(&session, 1000, TAILSPRIG_STATE_CALLING)
+        && after(&session, TAILSPRIG_EVENT_ANSAM, 0, 0) == TAILSPRIG_STATE_QUIET
+        && ends_at(&session, te, TAILSPRIG_STATE_MENU);
+}
+
 /* With ticks 5 ms apart, whenever they fall, a pause is 75 ms long within 5. */
 static bool pauses_in_time(struct tailsprig_session session)
 {
@@ -579,13 +589,15 @@ static void the_caller(void)
     started = tailsprig_start_caller(5, 499);
     CHECK(started.code == -TAILSPRIG_BAD_RECORD && started.session.entry == 0 && started.session.end == 0);
     CHECK(tailsprig_start_caller(5, 5001).code == -TAILSPRIG_BAD_RECORD);
+
+    /* Without a value quiet lasts 1,000 ms, and with that of textphones half of it. */
     other = tailsprig_start_caller_default(9);
-    CHECK(other.entry == 9 && other.te == 500 && other.end == TAILSPRIG_CALLER);
+    CHECK(other.entry == 9 && other.te == 1000 && other.end == TAILSPRIG_CALLER && quiet_lasts(other, 1000));
+    started = tailsprig_start_caller(9, TAILSPRIG_TE_TEXTPHONE);
+    CHECK(started.code == 0 && quiet_lasts(started.session, 500));
 
     /* With a Te of 5,000 CM starts no sooner than ANSam ends, even where the caller hears ANSam at once. */
-    other = tailsprig_start_caller(0, 5000).session;
-    CHECK(ends_at(&other, 1000, TAILSPRIG_STATE_CALLING));
-    CHECK(after(&other, TAILSPRIG_EVENT_ANSAM, 0, 0) == TAILSPRIG_STATE_QUIET && ends_at(&other, 5000, TAILSPRIG_STATE_MENU));
+    CHECK(quiet_lasts(tailsprig_start_caller(0, 5000).session, 5000));
 
     /* A tone that is told once, too early, is lost. */
     CHECK(after(&session, TAILSPRIG_EVENT_ANSAM, 0, 999) == 0);

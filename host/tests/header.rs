@@ -329,14 +329,36 @@ fn the_numbers_are_those_of_the_sources() {
         ("sequences", "CJ_BITS", "CJ_BITS"),
         ("offers", "LONGEST_MENU", "MENU_MOST"),
         ("codes", "NOWHERE", "NOWHERE"),
+        ("steps", "LEAST_TE", "TE_TEXTPHONE"),
     ] {
         assert_eq!(number(in_header), constant(krate, name), "{in_header}");
     }
     assert_eq!(number("MOST_BITS"), constant("sequences", "PREAMBLE") + number("OCTET_BITS") * number("MOST_OCTETS"));
 }
 
+/// A number as the manual writes it.
+fn with_comma(number: i64) -> String {
+    match number / 1000 {
+        0 => number.to_string(),
+        thousands => format!("{thousands},{:03}", number % 1000),
+    }
+}
+
+#[test]
+fn te_in_the_manual_is_that_of_the_sources() {
+    let manual = read("include/tailsprig.h");
+    let [least, most, default] = ["LEAST_TE", "MOST_TE", "DEFAULT_TE"].map(|name| with_comma(constant("steps", name)));
+    for said in [
+        format!("te is not {least} to {most}. */"),
+        format!("how long the caller is quiet: {least} to {most}; 0 for the answerer */"),
+        format!("without a value for Te, which then is {default}. Not for textphone callers. */"),
+    ] {
+        assert!(manual.contains(&said), "{said}");
+    }
+}
+
 /// The rows of the steps' table for a state and a tick: the milliseconds, the condition and the next state.
-fn ticks_of(state: &str) -> Vec<(u32, String, String)> {
+fn ticks_of(state: &str) -> Vec<(i64, String, String)> {
     let source = source("steps");
     let (_, table) = source.split_once("const ROWS").expect("the table");
     let field = |row: &str, name: &str, end: char| {
@@ -364,10 +386,7 @@ fn the_limits_in_the_manual_are_those_of_the_table() {
         let expected = match ticks_of(state).as_slice() {
             [] => "no limit".to_string(),
             [(0, condition, next)] if condition == "TE_ELAPSED" => format!("Te: {next}"),
-            [(least, condition, next)] if condition == "ALWAYS" => match least / 1000 {
-                0 => format!("{least} ms: {next}"),
-                thousands => format!("{thousands},{:03} ms: {next}", least % 1000),
-            },
+            [(least, condition, next)] if condition == "ALWAYS" => format!("{} ms: {next}", with_comma(*least)),
             rows => panic!("{state}: {rows:?}"),
         };
         assert!(said.starts_with(&expected), "{state}: {said}, and not {expected}");
