@@ -364,6 +364,46 @@ fn every_sentence_of_the_demands_stands_whole_in_the_rows_of_its_demand() {
     }
 }
 
+/// The requests of document 02 that are in force, which its first line names: the number of each, its title and its text.
+fn requests_in_force() -> Vec<(String, String, String)> {
+    let page = read(&root().join("docs/document-02.md"));
+    let numbers = page.lines().next().and_then(|line| line.strip_prefix("Requests in force: ")?.strip_suffix('.'));
+    let request = |number: &str| {
+        let paragraph = page.lines().find_map(|line| line.strip_prefix(&format!("**Req {number}. ")));
+        let (title, text) = paragraph.and_then(|text| text.split_once(".** ")).unwrap_or_else(|| panic!("no request {number}"));
+        (number.to_string(), title.to_string(), text.to_string())
+    };
+    numbers.expect("the first line says which are in force").split(", ").map(request).collect()
+}
+
+/// As those of the demands do, the rows of a request hold it word by word.
+#[test]
+fn every_sentence_of_a_request_in_force_stands_whole_in_its_rows() {
+    let promises = read(&root().join("docs/PROMISES.md"));
+    for (number, title, text) in requests_in_force() {
+        let heading = format!("## Request {number}: {title}");
+        let rows = first_cells(section(&promises, &heading)).join(" ");
+        let found = sentences(&text);
+        assert!(found.len() > 1, "{} sentences in '{text}'", found.len());
+        for sentence in found {
+            assert!(rows.contains(&words(&sentence)), "the rows below '{heading}' do not hold '{sentence}'");
+        }
+    }
+}
+
+/// Who reads README sees which requests are in force, and each has its note.
+#[test]
+fn readme_and_the_notes_are_of_the_requests_in_force() {
+    let in_force: Vec<String> = requests_in_force().into_iter().map(|(number, _, _)| number).collect();
+    let named: Vec<String> = read(&root().join("README.md"))
+        .lines()
+        .filter_map(|line| Some(line.strip_prefix("| [")?.split_once("](docs/requests/")?.0.to_string()))
+        .collect();
+    assert_eq!(named, in_force, "the table of requests in README.md");
+    let notes: Vec<PathBuf> = in_force.iter().map(|number| root().join(format!("docs/requests/{number}.md"))).collect();
+    assert_eq!(files(&root().join("docs/requests")), notes);
+}
+
 /// A text in one line, with one sign for all quotation marks: a quotation within a quotation has the other one.
 fn in_one_line(text: &str) -> String {
     text.split_whitespace().collect::<Vec<_>>().join(" ").replace('\'', "\"")
@@ -402,10 +442,12 @@ fn stands_in(quotation: &str, page: &str) -> bool {
 /// Definitions are held against the words of the customer: a word that is not theirs would hide a difference.
 #[test]
 fn every_quotation_above_a_definition_is_exact() {
-    let pages = ["docs/document-01.md", "docs/demands.md"].map(|page| in_one_line(&read(&root().join(page))));
+    let mut pages = ["docs/document-01.md", "docs/demands.md"].map(|page| in_one_line(&read(&root().join(page)))).to_vec();
+    pages.extend(requests_in_force().iter().map(|(_, _, text)| in_one_line(text)));
     let exact = |quotation: &str| pages.iter().any(|page| stands_in(quotation, page));
     assert!(exact("If a 0 comes sooner, .. it also starts a sync."));
-    for wrong in ["If a 0 comes later", "If a 0 comes soon", "it also starts a sync. .. If a 0 comes sooner"] {
+    let across_pages = "Te becomes 1,000. .. given at the start";
+    for wrong in ["If a 0 comes later", "If a 0 comes soon", "it also starts a sync. .. If a 0 comes sooner", across_pages] {
         assert!(!exact(wrong), "'{wrong}' is taken for a quotation");
     }
     let mut found = 0;
@@ -419,7 +461,7 @@ fn every_quotation_above_a_definition_is_exact() {
         }
     }
     assert!(found > 150, "{found} quotations were found");
-    assert!(wrong.is_empty(), "neither in 01 nor in the demands: {wrong:#?}");
+    assert!(wrong.is_empty(), "neither in 01 nor in the demands nor in a request in force: {wrong:#?}");
 }
 
 /// What is read aloud is what stands in the crates today: each block of `docs/READING.md` names its file.
