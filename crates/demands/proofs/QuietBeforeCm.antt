@@ -7,10 +7,9 @@ use mathlib.Core.Path.{_≡_, refl, sym, ap, subst, _∙_}
 use mathlib.Core.Bool.{true, false}
 use mathlib.Core.List.{List}
 use mathlib.Core.Logic.{⊎-elim}
-use borrow.Author.Tests.{le-ltb, le-leb, lt-leb, leb-true, eqb-true}
+use borrow.Author.Tests.{le-ltb, le-leb, lt-leb, eqb-true}
 use lib.Dec.{leb, eqb}
 use Rattle.laws.specs.Logic.{when, both, either}
-use Rattle.laws.proofs.Logic.{both-true}
 use Rattle.steps.specs.declared.Session.{Session}
 use Rattle.steps.specs.Table.{calling, quiet, menu, going, ansam, tick}
 use Rattle.steps.specs.Session.{caller, isTe, choiceFits, endedFits, inRange, defaultTe, callerFrom}
@@ -19,6 +18,7 @@ use Rattle.steps.specs.Runs.{Timed, run}
 use Rattle.steps.proofs.Clock.{difference-is-elapsed}
 use Rattle.steps.proofs.Ranges.{range-fits, caller-start-is-in-range, step-keeps-range}
 use Rattle.steps.proofs.Runs.{run-keeps-range, run-keeps-te}
+use Rattle.steps.proofs.Ticks.{between-true}
 use Rattle.demands.specs.Worked.{quietFrom}
 use Rattle.demands.specs.TableLines.{enters, stays}
 use Rattle.demands.specs.QuietBeforeCm.{later, EachTick, ticksThenHears, IsQuietFor, QuietGoesByTheStart}
@@ -40,7 +40,7 @@ by-the-clock passed time short of-the-clock = sym (difference-is-elapsed (later 
 module _ (te : ℕ) (is-te : isTe te ≡ true) where
   -- Te is within half the clock
   te-small : te < 2 ^ 31
-  te-small = omega (arith, leb-true te 5000 (both-true (leb 500 te) (leb te 5000) is-te .1))
+  te-small = omega (arith, between-true 500 5000 te is-te .1)
 
   -- a tick within half the clock, by the table
   in-quiet : (entry passed value : ℕ) → inRange (quietFrom te entry) ≡ true → entry < 2 ^ 32 → passed < 2 ^ 31

@@ -117,17 +117,15 @@ module _ (plan : Plan) (is-called : setAt plan 1 (plan .function) % 2 ≡ 1) (d 
   unfolding bytes wordLength when either
   te-stops = refl
 
-  pub call-stops : Stops (callText (plan .function) (plan .te))
-  unfolding bytes wordLength when either
-  call-stops = refl
+  -- behind another line
+  module _ (some : 0 < plan .function) (h : plan .function < 7) (r : Reading) (before : Line) (is-fed : finishLine r ≡ reading (planned (plan .sets) 0 0) before beginning) where
+    pub calling : Run r d (bytes "\ncall     " ++ functionName (plan .function)) (called (plan .function) 0 done) d
+    unfolding isSaid when
+    calling = join (call-begins (planned (plan .sets) 0 0) before d r is-fed refl) (names-stop function _ names) (call-run some h)
 
-  pub calling :
-      (r : Reading) (before : Line) → finishLine r ≡ reading (planned (plan .sets) 0 0) before beginning → 0 < plan .function → plan .function < 7 → isTe (plan .te) ≡ true → plan .te < 100000
-      → Run r d (callText (plan .function) (plan .te)) (reading plan (noLine 0) done) d
-  unfolding isSaid finishLine when either
-  calling r before is-fed some h is-te small =
-      let f = plan .function in
-      let begun = call-begins (planned (plan .sets) 0 0) before d r is-fed refl in
-      let of-te = te-begins (planned (plan .sets) f 0) (noLine 0) d (called f 0 done) refl (called f (plan .te) done) (decimal (plan .te)) refl (te-run is-te small) in
-      rw (append-assoc (bytes "\ncall     " ++ functionName f) (bytes "\nTe        ") (decimal (plan .te)))
-      (join (join begun (names-stop function _ names) (call-run some h)) te-stops of-te)
+    pub calling-with-te : isTe (plan .te) ≡ true → plan .te < 100000 → Run r d (callText (plan .function) (plan .te)) (reading plan (noLine 0) done) d
+    unfolding isSaid finishLine when either
+    calling-with-te is-te small =
+        let f = plan .function in
+        let of-te = te-begins (planned (plan .sets) f 0) (noLine 0) d (called f 0 done) refl (called f (plan .te) done) (decimal (plan .te)) refl (te-run is-te small) in
+        rw (append-assoc (bytes "\ncall     " ++ functionName f) (bytes "\nTe        ") (decimal (plan .te))) (join calling te-stops of-te)

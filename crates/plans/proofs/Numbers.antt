@@ -1,23 +1,19 @@
--- Laws about the numbers of a plan: Te, sets, and numbers in digits.
+-- Laws about the numbers of a plan: sets, and numbers in digits.
 -- Assumes nothing.
-use Prim.Native.Nat.{ℕ, _<_, _≤_, _-_, _*_, _%_, _^_}
+use Prim.Native.Nat.{ℕ, _<_, _*_, _%_, _^_}
 use native.Mathlib.Omega.{arith}
 use mathlib.Core.Path.{_≡_, refl}
 use mathlib.Core.Bool.{true}
-use lib.Dec.{leb, ltb, eqb, eqb→eq}
+use lib.Dec.{ltb, eqb, eqb→eq}
 use Rattle.laws.specs.Logic.{when, both}
 use Rattle.laws.specs.Tests.{allBelow}
-use Rattle.laws.proofs.Logic.{either-way, both-true}
+use Rattle.laws.proofs.Logic.{either-way}
 use Rattle.laws.proofs.Computed.{below}
-use Rattle.steps.specs.Session.{isTe}
-use borrow.Author.Tests.{lt-ltb, leb-true, ltb-true, ltb-false}
-use Rattle.io.specs.Digits.{digits, Fewest}
+use borrow.Author.Tests.{lt-ltb, ltb-true, ltb-false}
+use Rattle.io.specs.Digits.{Fewest}
 use Rattle.printing.specs.Page.{Page, typed, TypedDecimal}
 use Rattle.printing.proofs.Pages.{typed-decimal-unique}
 use Rattle.plans.specs.Plain.{decimal}
-
-pub te-most : (te : ℕ) → isTe te ≡ true → te ≤ 5000
-te-most te is-te = leb-true te 5000 (both-true (leb 500 te) (leb te 5000) is-te .1)
 
 -- the weight of a number below 16 fits a set
 pub weight-fits : (n : ℕ) → n < 16 → 1 * 2 ^ n % 2 ^ 16 ≡ 2 ^ n

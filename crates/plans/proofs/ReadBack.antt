@@ -1,32 +1,34 @@
--- The plain form of a call is read as that call, with the same bits damaged.
+-- The plain form of a call is read as that call, with the same bits damaged, and so it is without its line for Te where Te is the default: in both the
+-- lines of the ends are read, then those that tell the call, then the damaged bits.
 -- Assumes nothing.
-use Prim.Native.Nat.{ℕ, zero, suc, _<_, _≤_, _+_}
+use Prim.Native.Nat.{ℕ, zero, suc, _<_, _+_}
 use native.Mathlib.Omega.{arith}
 use mathlib.Core.Path.{_≡_, refl, sym, ap, subst, _∙_}
 use mathlib.Core.List.{List, [], _∷_, _++_}
-use borrow.Author.Tests.{leb-true, lt-ltb, le-ltb, ne-eqb}
-use lib.Dec.{leb, eqb, eqb→eq}
+use borrow.Author.Tests.{lt-ltb, le-ltb, ne-eqb}
+use lib.Dec.{eqb, eqb→eq}
 use lib.ListN.{length, getD, take, drop, replicate, drop-of-length-le}
 use lib.Seq.{drop-cons}
 use Rattle.laws.specs.Logic.{when, both, either}
 use Rattle.laws.specs.Tests.{allBelow}
-use Rattle.laws.proofs.Logic.{both-true, clash}
+use Rattle.laws.proofs.Logic.{clash}
 use Rattle.laws.proofs.Computed.{below}
 use Rattle.names.specs.Bytes.{bytes}
+use Rattle.steps.proofs.Ticks.{between-true}
 use Rattle.plans.specs.declared.Plan.{Plan}
 use Rattle.plans.specs.declared.Answer.{Answer}
 use Rattle.plans.specs.declared.Reading.{Reading}
 use Rattle.plans.specs.Text.{wordLength}
 use Rattle.plans.specs.Reading.{beginning, done, planned, home, place, setAt, recordOf, noPlan, fresh, isSaid, finishLine, withDefault, missing, answer, finished, readText, bitPlace, marked}
-use Rattle.plans.specs.Plain.{endText, bitsText, damageText, callText, plain}
-use Rattle.plans.specs.Good.{Good, Marks, PlainReadsBack}
+use Rattle.plans.specs.Plain.{functionName, endText, bitsText, damageText, callText, plain}
+use Rattle.plans.specs.Good.{Good, Marks, IsReadAs, PlainReadsBack, TeIsTheDefault}
 use Rattle.plans.proofs.Runs.{Stops, stops-joined, Run, nothing, fed, join, whole-read, whole-marked}
 use Rattle.plans.proofs.Marking.{marking, zeros, zeros-at, first-half, other-half, halves-marked}
 use Rattle.plans.proofs.Words.{Line, lineOf, noLine, reading}
 use Rattle.plans.proofs.FunctionRuns.{withFunctions, on}
 use Rattle.plans.proofs.Accepted.{has-home}
 use Rattle.plans.proofs.EndRuns.{withEnd, end-run}
-use Rattle.plans.proofs.LineRuns.{caller-known, answerer-known, end-finished, caller-begins, answerer-begins, call-stops, calling}
+use Rattle.plans.proofs.LineRuns.{caller-known, answerer-known, end-finished, caller-begins, answerer-begins, calling, calling-with-te}
 use Rattle.plans.proofs.DamageRuns.{Ends, bits-stop, bits-run}
 
 -- the entries of a list are the list
@@ -79,32 +81,44 @@ module _ (plan : Plan) (good : Good plan) where
         let of-answerer = answerer-run (of-caller .0) in
         (of-answerer .0, subst (λ (sets : List ℕ). Run fresh d bothEnds (on 2 0 (of-answerer .0) sets) d) all-sets (join (of-caller .1) answerer-stops (of-answerer .1)))
 
-  te-range : (500 ≤ plan .te) × (plan .te ≤ 5000)
-  te-range = let these = both-true (leb 500 (plan .te)) (leb (plan .te) 5000) (good .te) in (leb-true 500 (plan .te) (these .0), leb-true (plan .te) 5000 (these .1))
+  -- what is read of the call and of Te, where a line gives it
+  abbrev told : ℕ → Plan
+  told te = planned (plan .sets) (plan .function) te
 
-  -- the end of the text
-  none-missing : missing plan ≡ 0
+  none-missing : (te : ℕ) → missing (told te) ≡ 0
   unfolding missing isSaid when both
-  none-missing =
+  none-missing te =
       simp (lt-ltb 0 (setAt plan 1 home) (has-home plan 1 (good .caller) .0), lt-ltb 0 (setAt plan 2 home) (has-home plan 2 (good .answerer) .0), lt-ltb 0 (plan .function) (good .function .0))
 
-  same-default : withDefault plan ≡ plan
-  unfolding when
-  same-default = simp (ne-eqb (plan .te) 0 (λ e. omega (arith, e, te-range .0)))
-
-  is-finished : (before : Line) (at : ℕ) → finished (reading plan before beginning) at ≡ answer plan 0 at
+  is-finished : (te : ℕ) → withDefault (told te) ≡ plan → (before : Line) (at : ℕ) → finished (reading (told te) before beginning) at ≡ answer plan 0 at
   unfolding finished finishLine when either
-  is-finished before at = simp (none-missing, same-default)
+  is-finished te as-meant before at = simp (none-missing te, as-meant)
 
-  -- the ends, the call and Te
-  head-run : (d : List ℕ) → Run fresh d (bothEnds ++ callText (plan .function) (plan .te)) (reading plan (noLine 0) done) d
+  given-stays : withDefault (told (plan .te)) ≡ plan
+  unfolding when
+  given-stays = simp (ne-eqb (plan .te) 0 (λ e. omega (arith, e, between-true 500 5000 (plan .te) (good .te) .0)))
+
+  -- the ends, and lines that tell the call
+  lines-run : (d lines : List ℕ) (r : Reading) → Stops lines
+      → ((behind : Reading) (before : Line) → finishLine behind ≡ reading (planned (plan .sets) 0 0) before beginning → Run behind d lines r d) → Run fresh d (bothEnds ++ lines) r d
   unfolding recordOf
-  head-run d =
+  lines-run d lines r stops run =
       let both-ends = ends-run d in
       let first = both-ends .0 in
-      join (both-ends .1) (call-stops plan (good .called) d)
-      (calling plan (good .called) d (on 2 0 first (plan .sets)) (lineOf 2 0 first) (end-finished plan 2 first (plan .sets) (good .answerer) refl refl)
-      (good .function .0) (omega (arith, good .function .1)) (good .te) (omega (arith, te-range .1)))
+      join (both-ends .1) stops (run (on 2 0 first (plan .sets)) (lineOf 2 0 first) (end-finished plan 2 first (plan .sets) (good .answerer) refl refl))
+
+  called-low : plan .function < 7
+  called-low = omega (arith, good .function .1)
+
+  head-run : (d : List ℕ) → Run fresh d (bothEnds ++ (bytes "\ncall     " ++ functionName (plan .function))) (reading (told 0) (noLine 0) done) d
+  unfolding bytes wordLength when either
+  head-run d = lines-run d (bytes "\ncall     " ++ functionName (plan .function)) (reading (told 0) (noLine 0) done) refl (calling plan (good .called) d (good .function .0) called-low)
+
+  head-with-te-run : (d : List ℕ) → Run fresh d (bothEnds ++ callText (plan .function) (plan .te)) (reading plan (noLine 0) done) d
+  unfolding bytes wordLength when either
+  head-with-te-run d =
+      lines-run d (callText (plan .function) (plan .te)) (reading plan (noLine 0) done) refl
+      (λ behind before is-fed. calling-with-te plan (good .called) d (good .function .0) called-low behind before is-fed (good .te) (omega (arith, between-true 500 5000 (plan .te) (good .te) .1)))
 
 -- the damaged bits
 caller-place : (time : ℕ) → bitPlace 1 time ≡ 0 + time
@@ -144,28 +158,39 @@ module _ (plan : Plan) (damaged d : List ℕ) (marks : Marks damaged) where
       (omega (arith, other-half 9000 damaged (marks .both-ends))) in
       (of-second .0, of-second .1, join (of-first .2) (bits-stop plan 2 (bytes "answerer") answerer-known 9000 answerer-place second 0 0) (of-second .2))
 
-  -- the whole text
-  whole-run : Good plan → (before : Line) × Run fresh d (plain plan damaged) (reading plan before beginning) (marking (marking d 0 first) 9000 second)
-  unfolding plain bytes wordLength finishLine when either
-  whole-run good =
-      let bits = two-runs (reading plan (noLine 0) done) (noLine 0, refl) in
-      let run = join (join (head-run plan good d) texts-stop (bits .2)) refl (fed (bits .1 .1) refl (nothing (reading plan (bits .1 .0) beginning) (marking (marking d 0 first) 9000 second))) in
-      (bits .1 .0, rw damage-there run)
+-- a whole text: the ends, the lines that tell the call, and the damaged bits
+module _ (plan : Plan) (damaged : List ℕ) (good : Good plan) (marks : Marks damaged) (lines : List ℕ) (te : ℕ)
+    (head : (d : List ℕ) → Run fresh d (bothEnds plan good ++ lines) (reading (told plan good te) (noLine 0) done) d) (as-meant : withDefault (told plan good te) ≡ plan)
+  where
+    abbrev text : List ℕ
+    text = bothEnds plan good ++ lines ++ damageText damaged ++ bytes "\n"
 
-module _ (plan : Plan) (damaged : List ℕ) (good : Good plan) (marks : Marks damaged) where
-  abbrev text : List ℕ
-  text = plain plan damaged
+    whole-run : (d : List ℕ) → (before : Line) × Run fresh d text (reading (told plan good te) before beginning) (marking (marking d 0 (take 9000 damaged)) 9000 (take 9000 (drop 9000 damaged)))
+    unfolding bytes wordLength finishLine when either
+    whole-run d =
+        let after = marking (marking d 0 (take 9000 damaged)) 9000 (take 9000 (drop 9000 damaged)) in
+        let bits = two-runs (told plan good te) damaged d marks (reading (told plan good te) (noLine 0) done) (noLine 0, refl) in
+        let run = join (join (head d) (texts-stop (told plan good te) damaged d marks) (bits .2)) refl (fed (bits .1 .1) refl (nothing (reading (told plan good te) (bits .1 .0) beginning) after)) in
+        (bits .1 .0, rw (damage-there (told plan good te) damaged d marks) run)
 
-  read-back : readText text ≡ answer plan 0 (length text)
-  read-back =
-      let all = whole-run plan damaged [] marks good in
-      whole-read (all .1) 0 ∙ is-finished plan good (all .0) (0 + length text) ∙ ap (answer plan 0) (omega arith)
+    read-back : readText text ≡ answer plan 0 (length text)
+    read-back =
+        let all = whole-run [] in
+        whole-read (all .1) 0 ∙ is-finished plan good te as-meant (all .0) (0 + length text) ∙ ap (answer plan 0) (omega arith)
 
-  marked-back : marked text (zeros (9000 + 9000)) ≡ damaged
-  unfolding marked when
-  marked-back =
-      let all = whole-run plan damaged (zeros (9000 + 9000)) marks good in
-      rw (ap (λ (told : Answer). told .what) read-back) (whole-marked (all .1) ∙ halves-marked 9000 damaged (marks .both-ends) (marks .bits))
+    marked-back : marked text (zeros (9000 + 9000)) ≡ damaged
+    unfolding marked when
+    marked-back =
+        let all = whole-run (zeros (9000 + 9000)) in
+        rw (ap (λ (a : Answer). a .what) read-back) (whole-marked (all .1) ∙ halves-marked 9000 damaged (marks .both-ends) (marks .bits))
+
+    is-read-as : IsReadAs plan damaged text
+    is-read-as = (read-back, marked-back)
 
 pub plain-reads-back : PlainReadsBack
-plain-reads-back plan damaged good marks = (read-back plan damaged good marks, marked-back plan damaged good marks)
+unfolding plain
+plain-reads-back plan damaged good marks = is-read-as plan damaged good marks (callText (plan .function) (plan .te)) (plan .te) (head-with-te-run plan good) (given-stays plan good)
+
+pub te-is-the-default : TeIsTheDefault
+unfolding when
+te-is-the-default plan damaged good marks is-default = is-read-as plan damaged good marks (bytes "\ncall     " ++ functionName (plan .function)) 0 (head-run plan good) (ap (told plan good) (sym is-default))

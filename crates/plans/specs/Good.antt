@@ -2,16 +2,17 @@
 use Prim.Native.Nat.{ℕ, _≤_, _<_, _%_}
 use mathlib.Core.Path.{_≡_}
 use mathlib.Core.Bool.{true, false}
-use mathlib.Core.List.{List}
+use mathlib.Core.List.{List, _++_}
 use mathlib.Core.Logic.{_⊎_}
 use lib.Dec.{leb}
 use lib.ListN.{length, replicate}
 use Rattle.laws.specs.Tests.{every}
+use Rattle.names.specs.Bytes.{bytes}
 use Rattle.records.specs.Record.{badRecord}
 use Rattle.steps.specs.Session.{isTe}
 use Rattle.plans.specs.declared.Plan.{Plan}
 use Rattle.plans.specs.Reading.{home, setAt, recordOf, answer, readText, marked}
-use Rattle.plans.specs.Plain.{plain}
+use Rattle.plans.specs.Plain.{functionName, endText, damageText, plain}
 
 -- an end whose record is accepted: sets of sixteen numbers; nothing is said of a function that it has not; the home function is one of six; it wants
 -- and is no more than there is
@@ -40,11 +41,22 @@ pub record Marks (damaged : List ℕ) : Type 0 where
 abbrev pub PlansAreGood : Type 0
 PlansAreGood = (text : List ℕ) → readText text .what ≡ 0 → Good (readText text .plan)
 
+-- a text that is read, to its end, as this call with these bits damaged
+abbrev pub IsReadAs : Plan → List ℕ → List ℕ → Type 0
+IsReadAs plan damaged text = (readText text ≡ answer plan 0 (length text)) × (marked text (replicate 18000 0) ≡ damaged)
+
 -- the plain form of a call that can be made is read as that call, with the same bits damaged
 abbrev pub PlainReadsBack : Type 0
-PlainReadsBack =
-    (plan : Plan) (damaged : List ℕ) → Good plan → Marks damaged
-    → (readText (plain plan damaged) ≡ answer plan 0 (length (plain plan damaged))) × (marked (plain plan damaged) (replicate 18000 0) ≡ damaged)
+PlainReadsBack = (plan : Plan) (damaged : List ℕ) → Good plan → Marks damaged → IsReadAs plan damaged (plain plan damaged)
+
+-- the plain form without its line for Te
+abbrev pub withoutTe : Plan → List ℕ → List ℕ
+withoutTe plan damaged =
+    endText (bytes "caller   ") plan 1 ++ endText (bytes "\nanswerer ") plan 2 ++ (bytes "\ncall     " ++ functionName (plan .function)) ++ damageText damaged ++ bytes "\n"
+
+-- document 02, Req 01: "Without a value, Te becomes 1,000.": a text that says all of a call but Te is read as that call with a Te of 1,000
+abbrev pub TeIsTheDefault : Type 0
+TeIsTheDefault = (plan : Plan) (damaged : List ℕ) → Good plan → Marks damaged → plan .te ≡ 1000 → IsReadAs plan damaged (withoutTe plan damaged)
 
 -- so what any text says is said again by the plain form of it
 abbrev pub ReadsAgain : Type 0

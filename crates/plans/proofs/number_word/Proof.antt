@@ -5,7 +5,7 @@ use borrow.Author.Tests.{eq-eqb, ne-eqb, lt-ltb, le-ltb}
 use mathlib.Core.Path.{sym, _∙_}
 use mir.Facts.{fits-below}
 use Rattle.laws.specs.Logic.{when}
-use Rattle.plans.proofs.Numbers.{te-most}
+use Rattle.steps.proofs.Ticks.{between-true}
 use Rattle.plans.proofs.number_word.Statement.{statement}
 use Rattle.plans.proofs.number_word.Tie as tie
 
@@ -13,7 +13,7 @@ is-te-requires : tie.Need-is-te-requires
 is-te-requires c κs = search needs
 
 cast-planning : tie.Need-cast-planning
-cast-planning c = fits-below tt (te-most _ (sym (c .before .is-te .ensures) ∙ c .if2 .taken))
+cast-planning c = fits-below tt (between-true 500 5000 _ (sym (c .before .is-te .ensures) ∙ c .if2 .taken) .1)
 
 planning-requires : tie.Need-planning-requires
 planning-requires c κs = search needs
