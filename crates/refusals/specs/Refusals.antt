@@ -1,13 +1,14 @@
--- Document 01, 'Refusal numbers'.
+-- Document 01, 'Refusal numbers', and the numbers of the requests.
 use Prim.Native.Nat.{ℕ}
 use lib.Dec.{eqb}
 use Rattle.laws.specs.Logic.{when}
 use Rattle.refusals.specs.declared.Refusal.{Refusal}
-use Rattle.refusals.specs.declared.Refusal.the-variants.{NotABit, StopBitZero, BadOctet, TooManyOctets, NoCallFunction, ShortBuffer, AfterOver, Clock, WrongEvent, BadRecord, NotOffered, WrongCategory, CutShort}
+use Rattle.refusals.specs.declared.Refusal.the-variants.{NotABit, StopBitZero, BadOctet, TooManyOctets, NoCallFunction, ShortBuffer, AfterOver, Clock, WrongEvent, BadRecord, NotOffered, WrongCategory, CutShort, BadBlock, BadPacking}
 use Rattle.refusals.specs.declared.Verdict.{Verdict}
 use Rattle.refusals.specs.declared.Verdict.the-variants.{Accepted, Refused}
 
--- the table's first column
+-- the table's first column; document 02, Req 02: "15 more than four bits left over, or leftover bits or options not 0; 14 block longer than what
+-- remains or a code that doesn't fit in it"
 abbrev pub number : Refusal → ℕ
 number NotABit = 1
 number StopBitZero = 2
@@ -22,6 +23,8 @@ number BadRecord = 10
 number NotOffered = 11
 number WrongCategory = 12
 number CutShort = 13
+number BadBlock = 14
+number BadPacking = 15
 
 -- "A refusal carries its number alone": a verdict as that number, or 0 where nothing is refused
 abbrev pub fault : Verdict → ℕ

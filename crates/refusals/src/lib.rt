@@ -2,7 +2,7 @@
 ghost use mathlib.Core.Path.{_≡_};
 ghost use Rattle.refusals.specs.Refusals.{number};
 
-// What document 01 refuses, in the order of its numbers.
+// What document 01 and the requests refuse, in the order of the numbers.
 pub enum Refusal {
     NotABit,
     StopBitZero,
@@ -17,6 +17,8 @@ pub enum Refusal {
     NotOffered,
     WrongCategory,
     CutShort,
+    BadBlock,
+    BadPacking,
 }
 
 // What a test says.
@@ -31,7 +33,7 @@ pub enum Wrote {
     Refused(Refusal),
 }
 
-// The number that document 01 gives a refusal.
+// The number that the customer gives a refusal.
 pub fn refusal_number(r: Refusal) -> u8
     ensures { λ n. ⌜ n ≡ number r ⌝ }
 {
@@ -49,5 +51,7 @@ pub fn refusal_number(r: Refusal) -> u8
         Refusal::NotOffered => 11,
         Refusal::WrongCategory => 12,
         Refusal::CutShort => 13,
+        Refusal::BadBlock => 14,
+        Refusal::BadPacking => 15,
     }
 }
