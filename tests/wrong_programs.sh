@@ -33,7 +33,7 @@ done | awk -F '\t' '
                 own[place] = 1
             } else if (line ~ /: error: / && line !~ /was not admitted/) {
                 place = line
-                if (sub(/.*\/proofs\//, "", place) && place ~ /^[a-z0-9_]+\/Proof\.antt:/) {
+                if (sub(/.*\/proofs\/\+?/, "", place) && place ~ /^[a-z0-9_]+\/Proof\.antt:/) {
                     sub(/\/.*/, "", place)
                     own[place] = 1
                 } else if (match(line, /: error: `[^`]+`/)) {

@@ -1,0 +1,9 @@
+pub mod Packing
+pub mod Streams
+pub mod Pasted
+pub mod Packs
+pub mod Field
+pub mod Blocks
+pub mod Reading
+pub mod Parts
+pub mod Finding

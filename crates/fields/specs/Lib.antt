@@ -1,0 +1,4 @@
+pub mod Packing
+pub mod Blocks
+pub mod Field
+pub mod Inner
