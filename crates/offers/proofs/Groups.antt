@@ -59,7 +59,7 @@ group-found t (group ∷ groups) h =
     ∙ ap (λ (l : List ℕ). orElse (ofTag t group) l) (group-found t groups (h .1))
 
 -- a group of one octet
-none-chosen : (b : Bool) → _≡_ {A = List ℕ} [] (when b [] [])
+pub none-chosen : (b : Bool) → _≡_ {A = List ℕ} [] (when b [] [])
 unfolding when
 none-chosen true = refl
 none-chosen false = refl

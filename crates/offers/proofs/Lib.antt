@@ -3,3 +3,4 @@ pub mod Groups
 pub mod Meaning
 pub mod Answering
 pub mod Saying
+pub mod Fields

@@ -5,23 +5,26 @@ use native.Mathlib.Omega.{arith}
 use mathlib.Core.Path.{_≡_, refl, sym, subst}
 use mathlib.Core.Bool.{Bool, true, false}
 use mathlib.Core.List.{List, [], _∷_, _++_}
-use borrow.Author.Tests.{ne-eqb}
+use borrow.Author.Tests.{lt-ltb, le-ltb, ltb-false, ne-eqb}
 use lib.Dec.{ltb, lit<}
 use lib.ListN.{length, take, getD, length-append}
 use Rattle.laws.specs.Logic.{when}
+use Rattle.laws.specs.Front.{front}
 use Rattle.laws.specs.Joined.{joined}
 use Rattle.laws.proofs.Logic.{either-way, bit-of-test, clash}
+use Rattle.refusals.specs.Lent.{roomFault, put}
 use Rattle.octets.specs.Octets.{categoryOctet}
 use Rattle.items.specs.Items.{inSet}
 use Rattle.menus.specs.declared.Offer.{Offer}
 use Rattle.menus.specs.Offer.{pcmTag, protocol, lapmOption, access}
 use Rattle.menus.specs.Pcm.{paired}
 use Rattle.menus.proofs.Pcm.{paired-small}
+use Rattle.fields.specs.Field.{fieldOf}
 use Rattle.records.specs.declared.Modes.{Modes}
 use Rattle.records.specs.declared.Record.{Record}
 use Rattle.records.specs.Record.{inUse, badRecord}
 use Rattle.offers.specs.Offering.{bit, accessOptions, sharedItems, jmPcm}
-use Rattle.offers.specs.Making.{oneOctet, modulationGroup, groupsOf, menuOf, recordFault, functionFault}
+use Rattle.offers.specs.Making.{oneOctet, modulationGroup, groupsOf, menuOf, recordFault, functionFault, withField, sizeFault}
 use Rattle.offers.specs.Inner.{Writes}
 
 pub one-there : (there : Bool) (octet : ℕ) (out : List ℕ) → there ≡ true → length (oneOctet there octet) ≤ length out → 0 < length out
@@ -89,3 +92,23 @@ function-missing own function t = simp (ne-eqb (inUse own function .available) 1
 pub no-first : (octets : List ℕ) → length octets ≤ 0 → [] ≡ take 1 octets
 no-first [] h = refl
 no-first (b ∷ octets) h = absurd (omega (arith, h))
+
+-- a menu with a field: its size decides first
+pub with-length : (offer : Offer) (blocks : List ℕ) → length (withField offer blocks) ≡ length (menuOf offer) + length (fieldOf blocks)
+with-length offer blocks = length-append (menuOf offer) (fieldOf blocks)
+
+pub size-over : (menu : List ℕ) → 64 < length menu → 4 ≡ sizeFault menu
+unfolding when
+size-over menu h = simp (lt-ltb _ _ h)
+
+pub size-fits : (menu : List ℕ) → length menu ≤ 64 → sizeFault menu ≡ 0
+unfolding when
+size-fits menu h = simp (le-ltb _ _ h)
+
+pub size-short : (menu : List ℕ) → sizeFault menu ≡ 0 → length menu ≤ 64
+size-short menu = either-way (λ (n : ℕ). n ≡ 0 → length menu ≤ 64) (ltb 64 (length menu)) 4 0 (λ _ e. absurd (let z : ⊥ = omega (arith, e) in z)) (λ e _. ltb-false 64 (length menu) e)
+
+-- what is put where there is room
+pub room-put : (new out after : List ℕ) → length new ≤ length out → after ≡ put (roomFault new out) new out .buffer → after ≡ front new out
+unfolding put when
+room-put new out after h e = simp (le-ltb _ _ h) at e

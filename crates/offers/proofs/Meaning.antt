@@ -106,7 +106,7 @@ module _ (offer : Offer) where
   )
 
   -- the first group of a tag in the menu
-  found : (t : ℕ) → groupOf (menuOf offer) t ≡
+  pub found : (t : ℕ) → groupOf (menuOf offer) t ≡
       orElse (when (eqb callFunctionTag t) (categoryOctet callFunctionTag (offer .function) ∷ []) [])
       (orElse (when (eqb modulation t) (modulationGroup (offer .items)) [])
       (orElse (when (eqb pcmTag t) pcms [])

@@ -1,20 +1,22 @@
 -- Document 01, 'Menus we make': CM, JM and the call function octet.
 use Prim.Native.Nat.{ℕ}
 use mathlib.Core.Bool.{Bool}
-use mathlib.Core.List.{List, [], _∷_}
+use mathlib.Core.List.{List, [], _∷_, _++_}
 use lib.Dec.{ltb}
-use lib.ListN.{take}
+use lib.ListN.{length, take}
 use Rattle.laws.specs.Logic.{when, both}
 use Rattle.laws.specs.Joined.{joined}
 use Rattle.refusals.specs.Refusals.{before}
 use Rattle.refusals.specs.Lent.{WriteOutcome, roomFault, put}
 use Rattle.octets.specs.declared.Purpose.the-variants.{Reading}
 use Rattle.octets.specs.Octets.{callFunctionTag, categoryOctet}
-use Rattle.octets.specs.Lists.{listFault, readable}
+use Rattle.octets.specs.Lists.{mostOctets, listFault, readable}
 use Rattle.items.specs.Items.{modulationOctet}
 use Rattle.menus.specs.declared.Offer.{Offer}
 use Rattle.menus.specs.Groups.{optionsIn}
 use Rattle.menus.specs.Offer.{pcmTag, protocol, lapmOption, access, offerOf}
+use Rattle.fields.specs.Blocks.{blocksFault}
+use Rattle.fields.specs.Field.{fieldOf}
 use Rattle.records.specs.declared.Record.{Record}
 use Rattle.records.specs.Record.{flag, inUse, badRecord}
 use Rattle.offers.specs.declared.Source.{Source}
@@ -76,12 +78,21 @@ recordFault own = when (badRecord own) 10 0
 abbrev pub functionFault : Record → ℕ → ℕ
 functionFault own function = when (flag (inUse own function .available)) 0 5
 
--- "menus from records 10, then the heard CM's refusals or 5, then 6"
-abbrev pub madeCm : Record → ℕ → List ℕ → WriteOutcome
-madeCm own function out =
-    let menu = menuOf (cmOffer own function) in
-    put (before (recordFault own) (before (functionFault own function) (roomFault menu out))) menu out
+-- document 02, Req 02: "The field stands last in CM"; "With no blocks CM has no field."
+abbrev pub withField : Offer → List ℕ → List ℕ
+withField offer blocks = menuOf offer ++ fieldOf blocks
 
+-- "4 also for a CM that would pass 64 octets with the field", or 0
+abbrev pub sizeFault : List ℕ → ℕ
+sizeFault menu = when (ltb mostOctets (length menu)) 4 0
+
+-- "in making a CM 10, 5, 4, 14, 6"
+abbrev pub madeCm : Record → ℕ → List ℕ → List ℕ → WriteOutcome
+madeCm own function blocks out =
+    let menu = withField (cmOffer own function) blocks in
+    put (before (recordFault own) (before (functionFault own function) (before (sizeFault menu) (before (blocksFault blocks) (roomFault menu out))))) menu out
+
+-- "menus from records 10, then the heard CM's refusals or 5, then 6"; "JM never carries it"
 abbrev pub madeJm : Record → List ℕ → List ℕ → WriteOutcome
 madeJm own heardCm out =
     let menu = menuOf (jmOffer own (offerOf heardCm)) in

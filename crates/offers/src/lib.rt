@@ -21,7 +21,7 @@ ghost use Rattle.menus.specs.Offer.{offerOf};
 ghost use Rattle.records.specs.Record.{badRecord};
 ghost use Rattle.offers.specs.Offering.{bit, withItem0, accessOptions, cmOfferOf, withItem1, jmOfferOf, jmOffer};
 ghost use Rattle.offers.specs.Making.{oneOctet, modulationGroup, groupsOf, menuOf, sourceOf, callFunction, frontOf, madeCm, madeJm};
-ghost use Rattle.offers.specs.Inner.{Writes};
+ghost use Rattle.offers.specs.Inner.{Writes, putWithField};
 
 // The groups of a menu, in their order: call function, modulation, PCM, protocol, access.
 const GROUPS: u8 = 5;
@@ -30,6 +30,9 @@ const GROUPS: u8 = 5;
 const SHORTEST_MENU: usize = 4;
 
 const LONGEST_MENU: usize = 7;
+
+// What a menu has at most, with a field.
+const MOST_OCTETS: usize = 64;
 
 // Where the call function octet of a JM stands: in the heard CM, in our own one, or nowhere.
 pub enum Source {
@@ -215,9 +218,30 @@ fn put_menu(out: &mut [u8], call: u8, offer: Offer) -> Wrote
     Wrote::Count(write_menu(out, call, offer))
 }
 
-// Makes the CM for a function, and answers how many octets it has.
-pub fn make_cm(own: Record, function: u8, out: &mut [u8]) -> Wrote
-    ensures { λ r. ⌜ Meets (madeCm own function (now (out .entry))) r (now (out .exit)) ⌝ }
+// The menu that says an offer, and behind it the field of our own blocks, where there is room for both.
+fn put_with_field(out: &mut [u8], call: u8, offer: Offer, blocks: &[u8]) -> Wrote
+    requires { ⌜ call ≡ categoryOctet callFunctionTag (offer .function) ⌝ }
+    ensures { λ r. ⌜ Meets (putWithField offer (now (blocks .entry)) (now (out .entry))) r (now (out .exit)) ⌝ }
+{
+    let size = menu_size(offer);
+    let whole = size + fields::field_size(blocks);
+    if MOST_OCTETS < whole {
+        return Wrote::Refused(Refusal::TooManyOctets);
+    }
+    if fields::are_blocks(blocks) {
+        if out.len() < whole {
+            return Wrote::Refused(Refusal::ShortBuffer);
+        }
+        write_menu(out, call, offer);
+        fields::put_field(blocks, &mut out[size..]);
+        return Wrote::Count(whole);
+    }
+    Wrote::Refused(Refusal::BadBlock)
+}
+
+// Makes the CM for a function, with the octets of our own blocks in its field, and answers how many octets it has.
+pub fn make_cm(own: Record, function: u8, blocks: &[u8], out: &mut [u8]) -> Wrote
+    ensures { λ r. ⌜ Meets (madeCm own function (now (blocks .entry)) (now (out .entry))) r (now (out .exit)) ⌝ }
 {
     if records::bad(own) {
         return Wrote::Refused(Refusal::BadRecord);
@@ -225,7 +249,7 @@ pub fn make_cm(own: Record, function: u8, out: &mut [u8]) -> Wrote
     let modes = records::in_use(own, function);
     if modes.available == 1 {
         let call = octets::category_octet(CALL_FUNCTION, function);
-        return put_menu(out, call, cm_offer(own, function, modes));
+        return put_with_field(out, call, cm_offer(own, function, modes), blocks);
     }
     Wrote::Refused(Refusal::NoCallFunction)
 }
