@@ -1,11 +1,13 @@
--- Looking and reading, as the numbers that cross to C.
-use Prim.Native.Nat.{_%_, _^_}
+-- Looking, reading and walking over blocks, as the numbers that cross to C.
+use Prim.Native.Nat.{ℕ, _%_, _^_}
 use mathlib.Core.Bool.{false}
 use lib.IntN.{ℤ, pos, negℤ}
 use Rattle.menus.specs.declared.Offer.{Offer}
 use Rattle.menus.specs.Groups.{Looked, place, nowhere, refusal}
 use Rattle.menus.specs.Offer.{Read, offers}
 use Rattle.menus.specs.Offer as reading
+use Rattle.fields.specs.Blocks.{Walked, blocks}
+use Rattle.fields.specs.Blocks as walking
 
 -- a place, 64 for nowhere since no place is as high, or a refusal n as -n
 abbrev pub lookedCode : Looked → ℤ
@@ -31,3 +33,12 @@ readCode (reading.refusal n) = negℤ (pos n)
 abbrev pub readOffer : Read → Offer
 readOffer (offers o) = o
 readOffer (reading.refusal n) = noOffer
+
+-- 0 with how many blocks there are, or a refusal n as -n and none
+abbrev pub walkCode : Walked → ℤ
+walkCode (blocks n) = pos 0
+walkCode (walking.refusal n) = negℤ (pos n)
+
+abbrev pub walkCount : Walked → ℕ
+walkCount (blocks n) = n
+walkCount (walking.refusal n) = 0

@@ -17,20 +17,23 @@ use Rattle.refusals.specs.Refusals.{before}
 use Rattle.refusals.specs.declared.Wrote.{Wrote}
 use Rattle.refusals.specs.Lent.{Said, count, refusal, saysWrote, WriteOutcome, roomFault, put, Meets}
 use Rattle.octets.specs.declared.Kind.{Kind}
-use Rattle.octets.specs.declared.Purpose.the-variants.{Writing}
+use Rattle.octets.specs.declared.Purpose.the-variants.{Reading, Writing}
 use Rattle.octets.specs.Lists.{listFault}
 use Rattle.octets.proofs.Lists.{accepted-short, before-none}
 use Rattle.sequences.specs.Line.{sequence, copies, cj}
 use Rattle.sequences.specs.Writing.{written, writtenCj}
 use Rattle.sequences.proofs.Lines.{line-length, line-small, cj-length}
-use Rattle.menus.specs.Groups.{Looked, place, nowhere, looked}
+use Rattle.menus.specs.Groups.{Looked, place, nowhere, looked, groupOf}
 use Rattle.menus.specs.Groups as groups
 use Rattle.menus.specs.Offer.{offerOf}
 use Rattle.menus.proofs.Looking.{Below, looked-below}
+use Rattle.fields.specs.Blocks.{blocksFault}
+use Rattle.fields.specs.Field.{fieldTag, fieldOctets, fieldRead}
+use Rattle.fields.proofs.Finding.{field-few}
 use Rattle.records.specs.declared.Record.{Record}
 use Rattle.offers.specs.Offering.{cmOffer, jmOffer}
-use Rattle.offers.specs.Making.{madeCm, madeJm}
-use Rattle.offers.proofs.Making.{menu-short}
+use Rattle.offers.specs.Making.{recordFault, functionFault, withField, sizeFault, madeCm, madeJm}
+use Rattle.offers.proofs.Making.{menu-short, size-short}
 use Rattle.codes.specs.Writing.{writeCode, cutSaid}
 use Rattle.codes.specs.Reading.{cutLooked}
 use Rattle.codes.proofs.Codes.{read-answer}
@@ -54,8 +57,15 @@ written-whole kind octets n out low =
 pub cj-whole : (out : List ℕ) → Whole (writtenCj out .answer)
 cj-whole out = put-whole (roomFault cj out) cj out (λ e. omega (arith, cj-length))
 
-pub cm-whole : (own : Record) (function : ℕ) (out : List ℕ) → Whole (madeCm own function out .answer)
-cm-whole own function out = put-whole _ _ out (λ _. omega (arith, menu-short (cmOffer own function)))
+pub cm-whole : (own : Record) (function : ℕ) (blocks out : List ℕ) → Whole (madeCm own function blocks out .answer)
+cm-whole own function blocks out =
+    let menu = withField (cmOffer own function) blocks in
+    let others = before (sizeFault menu) (before (blocksFault blocks) (roomFault menu out)) in
+    put-whole _ menu out
+    (λ e. omega (arith, size-short menu (before-none (sizeFault menu) _ (before-none (functionFault own function) others (before-none (recordFault own) _ e .1) .1) .0)))
+
+pub field-whole : (heard out : List ℕ) → Whole (fieldRead heard out .answer)
+field-whole heard out = put-whole _ (fieldOctets (groupOf heard fieldTag)) out (λ e. omega (arith, field-few heard (before-none (listFault Reading heard) _ e .0)))
 
 pub jm-whole : (own : Record) (heardCm out : List ℕ) → Whole (madeJm own heardCm out .answer)
 jm-whole own heardCm out = put-whole _ _ out (λ _. omega (arith, menu-short (jmOffer own (offerOf heardCm))))

@@ -7,14 +7,16 @@ use Rattle.refusals.specs.Lent.{WriteOutcome}
 use Rattle.listening.specs.declared.Listener.{Listener}
 use Rattle.listening.specs.Hearing.{HearOutcome, ManyOutcome}
 use Rattle.menus.specs.Offer.{Read}
+use Rattle.fields.specs.Blocks.{Walked}
 use Rattle.steps.specs.Session.{Start}
 use Rattle.steps.specs.Stepping as stepping
 use Rattle.codes.specs.Writing.{writeCode}
 use Rattle.codes.specs.Hearing.{toldCode}
-use Rattle.codes.specs.Reading.{readCode, readOffer}
+use Rattle.codes.specs.Reading.{readCode, readOffer, walkCode, walkCount}
 use Rattle.codes.specs.Steps.{startCode, startSession, stepCode}
 use Rattle.tailsprig.specs.declared.Ran.{Ran}
 use Rattle.tailsprig.specs.declared.MenuRead.{MenuRead}
+use Rattle.tailsprig.specs.declared.BlocksRead.{BlocksRead}
 use Rattle.tailsprig.specs.declared.CallerStart.{CallerStart}
 use Rattle.tailsprig.specs.declared.StepTaken.{StepTaken}
 
@@ -38,6 +40,11 @@ pub record RunsAs (laid : ManyOutcome) (r : Ran) : Type 0 where
 pub record ReadsAs (laid : Read) (r : MenuRead) : Type 0 where
   pub answer : r .code ≡ readCode laid
   pub offer : r .offer ≡ readOffer laid
+
+-- blocks that are counted
+pub record WalksAs (laid : Walked) (r : BlocksRead) : Type 0 where
+  pub answer : r .code ≡ walkCode laid
+  pub blocks : r .blocks ≡ walkCount laid
 
 -- a start with a given Te
 pub record StartsAs (laid : Start) (r : CallerStart) : Type 0 where

@@ -1,5 +1,7 @@
 // The library as a C program sees it: numbers, byte slices, and a refusal n as the answer -n. include/tailsprig.h is its manual.
 use codes::Asked;
+use fields::Block;
+use fields::Walk;
 use framing::NOTHING;
 use listening::Listener;
 use menus::Offer;
@@ -14,6 +16,8 @@ ghost use Rattle.listening.specs.Hearing.{heardBit, heardBits};
 ghost use lib.ListN.{length};
 ghost use Rattle.menus.specs.Groups.{looked, partAt};
 ghost use Rattle.menus.specs.Offer.{menuRead};
+ghost use Rattle.fields.specs.Blocks.{walked, blockAt, blockOf};
+ghost use Rattle.fields.specs.Field.{fieldRead};
 ghost use Rattle.choices.specs.Choosing.{choiceOf};
 ghost use Rattle.offers.specs.Making.{sourceOf, madeCm, madeJm};
 ghost use Rattle.codes.specs.Choosing.{choiceCode, sourceCode};
@@ -23,7 +27,7 @@ ghost use Rattle.steps.specs.Stepping.{stepped};
 ghost use Rattle.codes.specs.Steps.{carriedOf};
 ghost use Rattle.codes.specs.Writing.{kindOf, writtenAs};
 ghost use Rattle.codes.specs.Reading.{lookedCode};
-ghost use Rattle.tailsprig.specs.Exports.{Returns, HearsAs, RunsAs, ReadsAs, StartsAs, StepsAs};
+ghost use Rattle.tailsprig.specs.Exports.{Returns, HearsAs, RunsAs, ReadsAs, WalksAs, StartsAs, StepsAs};
 
 #[no_mangle]
 pub extern "C" fn tailsprig_write(kind: u8, octets: &[u8], copies: u16, out: &mut [u8]) -> i32
@@ -139,12 +143,58 @@ pub extern "C" fn tailsprig_read(octets: &[u8]) -> MenuRead
     }
 }
 
-// Makes the CM of a record for a function.
+// Reads the field of a heard CM.
 #[no_mangle]
-pub extern "C" fn tailsprig_cm(own: Record, function: u8, out: &mut [u8]) -> i32
-    ensures { λ r. ⌜ Returns (madeCm own function (now (out .entry))) r (now (out .exit)) ⌝ }
+pub extern "C" fn tailsprig_fields(octets: &[u8], out: &mut [u8]) -> i32
+    ensures { λ r. ⌜ Returns (fieldRead (now (octets .entry)) (now (out .entry))) r (now (out .exit)) ⌝ }
 {
-    codes::wrote_code(offers::make_cm(own, function, out))
+    codes::wrote_code(fields::read_field(octets, out))
+}
+
+// Blocks as C gets them: 0 and how many there are, or a refusal and none.
+#[repr(C)]
+pub struct BlocksRead {
+    pub blocks: usize,
+    pub code: i32,
+}
+
+// How many blocks there are.
+#[no_mangle]
+pub extern "C" fn tailsprig_blocks(octets: &[u8]) -> BlocksRead
+    ensures { λ r. ⌜ WalksAs (walked (now (octets .entry))) r ⌝ }
+{
+    let walked = fields::walk_blocks(octets);
+    match walked {
+        Walk::Blocks(n) => BlocksRead { blocks: n, code: 0 },
+        Walk::Refused(r) => BlocksRead {
+            blocks: 0,
+            code: codes::refusal_code(r),
+        },
+    }
+}
+
+// The block of a number, where all are blocks.
+#[no_mangle]
+pub extern "C" fn tailsprig_block_of(octets: &[u8], number: usize) -> Block
+    ensures { λ r. ⌜ r ≡ blockOf (now (octets .entry)) number ⌝ }
+{
+    fields::find_block(octets, number)
+}
+
+// The block that begins at a place, looked at alone.
+#[no_mangle]
+pub extern "C" fn tailsprig_block_at(octets: &[u8], place: usize) -> Block
+    ensures { λ r. ⌜ r ≡ blockAt (now (octets .entry)) place ⌝ }
+{
+    fields::block_at(octets, place)
+}
+
+// Makes the CM of a record for a function, with the octets of our own blocks.
+#[no_mangle]
+pub extern "C" fn tailsprig_cm(own: Record, function: u8, blocks: &[u8], out: &mut [u8]) -> i32
+    ensures { λ r. ⌜ Returns (madeCm own function (now (blocks .entry)) (now (out .entry))) r (now (out .exit)) ⌝ }
+{
+    codes::wrote_code(offers::make_cm(own, function, blocks, out))
 }
 
 // Makes the JM of a record for a heard CM.

@@ -19,8 +19,8 @@ same-length c = search needs
 returns : tie.Need-returns
 returns c =
     let made = c .before .before .before .make-cm in
-    let given = c .before .before .before .before .before .before .args in
-    returns-as _ (made .result) (made .last .1 .1 .0) (c .wrote-code .result) (cm-whole (given .own) (given .function) (now (given .out))) (made .ensures) (c .wrote-code .ok) (c .wrote-code .ensures)
+    let given = c .before .before .before .before .before .before .before .args in
+    returns-as _ (made .result) (made .last .1 .1 .1 .0) (c .wrote-code .result) (cm-whole (given .own) (given .function) (now (given .blocks)) (now (given .out))) (made .ensures) (c .wrote-code .ok) (c .wrote-code .ensures)
 
 pub tailsprig-cm-spec : {M : Type 1} → statement M
 tailsprig-cm-spec = tie.close (tie.spec make-cm-requires wrote-code-requires same-length returns)
