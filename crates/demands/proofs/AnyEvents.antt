@@ -43,9 +43,9 @@ no-mode : isMode 0 ≡ false
 unfolding both either
 no-mode = refl
 
-module _ (caller answerer : Record) (function : ℕ) (call : Call caller answerer function) (heardCm heardJm : List ℕ) (asSent : heardCm ≡ cmOf caller function) (asAnswered : heardJm ≡ jmOf answerer heardCm) where
+module _ (caller answerer : Record) (function : ℕ) (blocks : List ℕ) (call : Call caller answerer function blocks) (heardCm heardJm : List ℕ) (asSent : heardCm ≡ cmOf caller function blocks) (asAnswered : heardJm ≡ jmOf answerer heardCm) where
   abbrev named : ℕ
-  named = carried (callerNames caller function heardJm)
+  named = carried (callerNames caller function blocks heardJm)
 
   ends-only : (start : Session) (events : List Timed) → Starts start → Carrying named start events → EndsOnlyWith named caller answerer function start events
   ends-only start events starts carries =
@@ -54,18 +54,18 @@ module _ (caller answerer : Record) (function : ℕ) (call : Call caller answere
         goes = λ t other e. brought-is named other start events carries (ends .goes t other e .0);
         went = λ e. brought-is named (run start events .chosen) start events carries (ends .went e .0);
         shared = λ e nothing.
-            let is-none = brought-is named (run start events .chosen) start events carries (ends .went e .0) ∙ carries-nothing caller answerer function call heardCm heardJm asSent asAnswered nothing in
+            let is-none = brought-is named (run start events .chosen) start events carries (ends .went e .0) ∙ carries-nothing caller answerer function blocks call heardCm heardJm asSent asAnswered nothing in
             clash (sym (ends .went e .1) ∙ ap isMode is-none ∙ no-mode);
-        clears = λ e. nothing-carried caller answerer function call heardCm heardJm asSent asAnswered (sym (brought-is named 0 start events carries (ends .clears e)));
+        clears = λ e. nothing-carried caller answerer function blocks call heardCm heardJm asSent asAnswered (sym (brought-is named 0 start events carries (ends .clears e)));
       }
 
   pub no-end-goes-on-otherwise : (callerStart te answererStart : ℕ) (callerEvents answererEvents : List Timed) → isTe te ≡ true
-      → Carrying (carried (callerNames caller function heardJm)) (callerFrom callerStart te) callerEvents
+      → Carrying (carried (callerNames caller function blocks heardJm)) (callerFrom callerStart te) callerEvents
       → Carrying (carried (answererNames answerer heardCm)) (answererFrom answererStart) answererEvents
-      → NoEndGoesOnOtherwise (carried (callerNames caller function heardJm)) caller answerer function callerStart te answererStart callerEvents answererEvents
+      → NoEndGoesOnOtherwise (carried (callerNames caller function blocks heardJm)) caller answerer function callerStart te answererStart callerEvents answererEvents
   no-end-goes-on-otherwise callerStart te answererStart callerEvents answererEvents given callerCarries answererCarries = record {
     calling = ends-only (callerFrom callerStart te) callerEvents (calling callerStart te given) callerCarries;
     answering =
         ends-only (answererFrom answererStart) answererEvents (answering answererStart)
-        (subst (λ (choice : ℕ). Carrying choice (answererFrom answererStart) answererEvents) (sym (carried-alike caller answerer function call heardCm heardJm asSent asAnswered)) answererCarries);
+        (subst (λ (choice : ℕ). Carrying choice (answererFrom answererStart) answererEvents) (sym (carried-alike caller answerer function blocks call heardCm heardJm asSent asAnswered)) answererCarries);
   }

@@ -4,17 +4,21 @@ use Prim.Native.Nat.{ℕ}
 use mathlib.Core.Path.{_≡_, refl, sym}
 use mathlib.Core.Bool.{Bool, true, false}
 use mathlib.Core.List.{List, [], _∷_}
-use borrow.Author.Tests.{eqb-true}
-use lib.Dec.{eqb}
+use borrow.Author.Tests.{eqb-true, leb-true}
+use lib.Dec.{leb, eqb}
 use lib.ListN.{length}
 use Rattle.laws.specs.Logic.{when, both, either}
 use Rattle.laws.specs.Joined.{joined}
+use Rattle.laws.specs.Tests.{every}
 use Rattle.laws.proofs.Logic.{either-way, both-true, clash}
 use Rattle.octets.specs.Lists.{firstFault, untilCategory}
 use Rattle.items.specs.Items.{places, placeOf, hasItem, setOf, inSet, itemBits, modulationOctet}
 use Rattle.menus.specs.Groups.{firstGroup, frontPart, groupOf}
 use Rattle.menus.specs.Offer.{menuRead}
 use Rattle.menus.specs.Pcm.{paired}
+use Rattle.fields.specs.Packing.{joinedBits, groupsOf, packed}
+use Rattle.fields.specs.Blocks.{blocksBehind, full, blocksFault}
+use Rattle.fields.specs.Field.{fieldOf}
 use Rattle.records.specs.Record.{modesAt, anyBad, badRecord}
 use Rattle.offers.specs.Making.{modulationGroup}
 use Rattle.choices.specs.Choosing.{lowestFrom, pcmChoice, itemChoice, chosenFrom}
@@ -86,13 +90,14 @@ carrying choice (t ∷ ts) s tested =
     carried-as false equal here = clash (sym here)
 
 -- a call, by what is computed of it
-happens : (choice : ℕ) (caller answerer : Record) (last : Due) (callerEvents answererEvents : List Timed)
+happens : (choice : ℕ) (caller answerer : Record) (blocks : List ℕ) (last : Due) (callerEvents answererEvents : List Timed)
     → (length (caller .functions) ≡ 6) × (badRecord caller ≡ false) → (length (answerer .functions) ≡ 6) × (badRecord answerer ≡ false) → isAvailable caller 6 ≡ true
-    → carried (callerNames caller 6 (jmOf answerer (cmOf caller 6))) ≡ choice → isTe 500 ≡ true → EndsJoint choice last
+    → (leb (length (cmOf caller 6 blocks)) 64 ≡ true) × (blocksFault blocks ≡ 0) → carried (callerNames caller 6 blocks (jmOf answerer (cmOf caller 6 blocks))) ≡ choice → isTe 500 ≡ true → EndsJoint choice last
     → (ordered callerEvents (callerFrom 0 500) (callerOrder 500 choice) ≡ true) × (carries choice callerEvents (callerFrom 0 500) ≡ true)
-    → (ordered answererEvents (answererFrom 0) (answererOrder last choice) ≡ true) × (carries choice answererEvents (answererFrom 0) ≡ true) → Happens choice caller answerer last callerEvents answererEvents
-happens choice caller answerer last callerEvents answererEvents calling answering available named te closing called answered = record {
-  call = record { calling = record { six = calling .0; good = calling .1 }; answering = record { six = answering .0; good = answering .1 }; available = available };
+    → (ordered answererEvents (answererFrom 0) (answererOrder last choice) ≡ true) × (carries choice answererEvents (answererFrom 0) ≡ true) → Happens choice caller answerer blocks last callerEvents answererEvents
+happens choice caller answerer blocks last callerEvents answererEvents calling answering available field named te closing called answered = record {
+  call = record { calling = record { six = calling .0; good = calling .1 }; answering = record { six = answering .0; good = answering .1 }; available = available; fits = leb-true _ _ (field .0) };
+  sent = field .1;
   named = named;
   te = te;
   calling = in-order callerEvents _ _ (called .0);
@@ -103,10 +108,11 @@ happens choice caller answerer last callerEvents answererEvents calling answerin
 }
 
 pub calls-happen : CallsHappen
-unfolding when both either joined firstFault untilCategory places placeOf hasItem setOf inSet itemBits modulationOctet firstGroup frontPart groupOf menuRead paired modesAt anyBad badRecord modulationGroup lowestFrom pcmChoice itemChoice chosenFrom rows inRange elapsed applies findRow timed steppedIn ordered carries
+unfolding when both either joined firstFault untilCategory places placeOf hasItem setOf inSet itemBits modulationOctet firstGroup frontPart groupOf menuRead paired modesAt anyBad badRecord modulationGroup every joinedBits groupsOf packed blocksBehind full fieldOf lowestFrom pcmChoice itemChoice chosenFrom rows inRange elapsed applies findRow timed steppedIn ordered carries
 calls-happen = record {
-  goesOn = happens _ _ _ _ _ _ (refl, refl) (refl, refl) refl refl refl byCj (refl, refl) (refl, refl);
-  bySigC = happens _ _ _ _ _ _ (refl, refl) (refl, refl) refl refl refl (bySigC refl) (refl, refl) (refl, refl);
-  byPcm = happens _ _ _ _ _ _ (refl, refl) (refl, refl) refl refl refl byCj (refl, refl) (refl, refl);
-  clears = happens _ _ _ _ _ _ (refl, refl) (refl, refl) refl refl refl byCj (refl, refl) (refl, refl);
+  goesOn = happens _ _ _ _ _ _ _ (refl, refl) (refl, refl) refl (refl, refl) refl refl byCj (refl, refl) (refl, refl);
+  withBlocks = happens _ _ _ _ _ _ _ (refl, refl) (refl, refl) refl (refl, refl) refl refl byCj (refl, refl) (refl, refl);
+  bySigC = happens _ _ _ _ _ _ _ (refl, refl) (refl, refl) refl (refl, refl) refl refl (bySigC refl) (refl, refl) (refl, refl);
+  byPcm = happens _ _ _ _ _ _ _ (refl, refl) (refl, refl) refl (refl, refl) refl refl byCj (refl, refl) (refl, refl);
+  clears = happens _ _ _ _ _ _ _ (refl, refl) (refl, refl) refl (refl, refl) refl refl byCj (refl, refl) (refl, refl);
 }

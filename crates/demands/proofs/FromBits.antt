@@ -7,14 +7,14 @@ use mathlib.Core.Path.{_≡_, refl, sym, ap, subst, _∙_}
 use mathlib.Core.Bool.{Bool, true, false}
 use mathlib.Core.List.{List, [], _∷_, _++_}
 use borrow.Author.Tests.{le-ltb, lt-ltb}
-use lib.Dec.{ltb}
+use lib.Dec.{ltb, eqb}
 use lib.ListN.{length, replicate}
 use Rattle.laws.specs.Logic.{when, both}
 use Rattle.laws.specs.Front.{front}
 use Rattle.laws.specs.Joined.{joined}
 use Rattle.laws.specs.Tests.{every}
 use Rattle.laws.proofs.Computed.{every-joined}
-use Rattle.laws.proofs.Logic.{clash}
+use Rattle.laws.proofs.Logic.{either-way, clash}
 use Rattle.octets.specs.declared.Kind.the-variants.{Menu}
 use Rattle.octets.specs.declared.Purpose.the-variants.{Writing}
 use Rattle.octets.specs.Octets.{callFunctionTag, categoryOctet}
@@ -32,10 +32,16 @@ use Rattle.listening.specs.Record.{fresh}
 use Rattle.stretches.specs.Stretch.{octetsAll}
 use Rattle.stretches.specs.Hearing.{message, reports, repeated}
 use Rattle.stretches.proofs.Copies.{copies-read, buffer-read}
+use Rattle.fields.specs.Packing.{packed}
+use Rattle.fields.specs.Blocks.{blocksFault}
+use Rattle.fields.specs.Field.{fieldTag, fieldOf}
+use Rattle.fields.proofs.Packing.{packed-small}
 use Rattle.records.specs.declared.Record.{Record}
 use Rattle.offers.specs.Offering.{cmOffer, jmOffer}
-use Rattle.offers.specs.Making.{oneOctet, modulationGroup, menuOf}
-use Rattle.offers.proofs.Meaning.{menu-writable, menu-readable}
+use Rattle.offers.specs.Making.{oneOctet, modulationGroup, menuOf, withField}
+use Rattle.offers.proofs.Making.{size-fits}
+use Rattle.offers.proofs.Meaning.{menu-writable}
+use Rattle.offers.proofs.Fields.{with-readable, with-writable}
 use Rattle.demands.specs.Joint.{cmOf, jmOf}
 use Rattle.demands.specs.OneChoice.{Call}
 use Rattle.demands.specs.FromBits.{Makes, Sends, Agreed, here, later, Exchange, ExchangeEnds}
@@ -77,7 +83,7 @@ menu-small offer =
     (more-small _ _ (one-small (offer .access) access (offer .«access_options»)) none-small))))
 
 -- what is made stands in its buffer
-made-as : (f : ℕ) (menu lent octets : List ℕ) → Makes (put f menu lent) octets → octets ≡ menu
+pub made-as : (f : ℕ) (menu lent octets : List ℕ) → Makes (put f menu lent) octets → octets ≡ menu
 made-as f menu lent octets makes = sym (makes .stands) ∙ counted f menu lent (makes .size) (makes .told) .stands
 
 -- and what is sent of it is heard, agreed from the second copy on
@@ -94,24 +100,33 @@ agreed-as (suc n) heard octets (later unlike rest) = agreed-again n heard octets
 heard-as : (octets bits heard : List ℕ) → octetsAll octets ≡ true → Sends octets bits → Agreed heard (reports fresh bits) → heard ≡ octets
 heard-as octets bits heard small sends agreed = agreed-as (sends .copies) heard octets (subst (Agreed heard) (heard-copies octets bits small sends) agreed)
 
-module _ (caller answerer : Record) (function : ℕ) (call : Call caller answerer function) (e : Exchange caller answerer function) where
-  cm-made : e .cm ≡ cmOf caller function
-  cm-made = made-as _ (cmOf caller function) (e .cmLent) (e .cm) (e .makesCm)
+-- and so are those of a field
+field-small : (blocks : List ℕ) → octetsAll (fieldOf blocks) ≡ true
+unfolding fieldOf every both
+field-small blocks =
+    either-way (λ (l : List ℕ). octetsAll l ≡ true) (eqb (length blocks) 0) [] (categoryOctet fieldTag 0 ∷ packed blocks) (λ _. refl) (λ _. packed-small blocks)
+
+pub with-small : (offer : Offer) (blocks : List ℕ) → octetsAll (withField offer blocks) ≡ true
+with-small offer blocks = every-joined (λ (b : ℕ). ltb b 256) (menuOf offer) (fieldOf blocks) (menu-small offer) (field-small blocks)
+
+module _ (caller answerer : Record) (function : ℕ) (blocks : List ℕ) (call : Call caller answerer function blocks) (e : Exchange caller answerer function blocks) where
+  cm-made : e .cm ≡ cmOf caller function blocks
+  cm-made = made-as _ (cmOf caller function blocks) (e .cmLent) (e .cm) (e .makesCm)
 
   jm-made : e .jm ≡ jmOf answerer (e .heardCm)
   jm-made = made-as _ (jmOf answerer (e .heardCm)) (e .jmLent) (e .jm) (e .makesJm)
 
   cm-heard : e .heardCm ≡ e .cm
-  cm-heard = heard-as (e .cm) (e .cmBits) (e .heardCm) (rw cm-made (menu-small (cmOffer caller function))) (e .sendsCm) (e .agreedCm)
+  cm-heard = heard-as (e .cm) (e .cmBits) (e .heardCm) (rw cm-made (with-small (cmOffer caller function) blocks)) (e .sendsCm) (e .agreedCm)
 
   jm-heard : e .heardJm ≡ e .jm
   jm-heard = heard-as (e .jm) (e .jmBits) (e .heardJm) (rw jm-made (menu-small (jmOffer answerer (offerOf (e .heardCm))))) (e .sendsJm) (e .agreedJm)
 
-  pub exchange-ends : ExchangeEnds caller answerer function e
+  pub exchange-ends : ExchangeEnds caller answerer function blocks e
   exchange-ends = record {
     cmArrives = cm-heard;
     jmArrives = jm-heard;
-    ends = rw (cm-made, jm-made) (both-ends-end-with-the-named-choice caller answerer function call (e .heardCm) (e .heardJm) (cm-heard ∙ cm-made) (jm-heard ∙ jm-made));
+    ends = rw (cm-made, jm-made) (both-ends-end-with-the-named-choice caller answerer function blocks call (e .heardCm) (e .heardJm) (cm-heard ∙ cm-made) (jm-heard ∙ jm-made));
   }
 
 -- a buffer as long as what is put there
@@ -119,7 +134,7 @@ room-there : (new : List ℕ) → roomFault new new ≡ 0
 unfolding when
 room-there new = simp (le-ltb (length new) (length new) (omega arith))
 
-put-fine : (f : ℕ) (new lent : List ℕ) → f ≡ 0 → put f new lent ≡ record { answer = count (length new); buffer = front new lent }
+pub put-fine : (f : ℕ) (new lent : List ℕ) → f ≡ 0 → put f new lent ≡ record { answer = count (length new); buffer = front new lent }
 unfolding put when
 put-fine f new lent none = simp none
 
@@ -141,22 +156,23 @@ sends-it octets fine =
 agrees-it : (octets : List ℕ) → octetsAll octets ≡ true → listFault (Writing Menu) octets ≡ 0 → Agreed octets (reports fresh (copies 2 (sequence Menu octets) ++ tenOnes))
 agrees-it octets small fine = rw (copies-read Menu octets (record { octet = small; taken = fine }) 2) (later refl here)
 
-pub exchange-happens : (caller answerer : Record) (function : ℕ) → Call caller answerer function → Exchange caller answerer function
+pub exchange-happens : (caller answerer : Record) (function : ℕ) (blocks : List ℕ) → Call caller answerer function blocks → blocksFault blocks ≡ 0 → Exchange caller answerer function blocks
 unfolding when
-exchange-happens caller answerer function call =
-    let cm = cmOf caller function in
+exchange-happens caller answerer function blocks call fine =
+    let cm = cmOf caller function blocks in
+    let writable = with-writable (cmOffer caller function) blocks (size-fits cm (call .fits)) in
     let jm = jmOf answerer cm in
     record {
       cmLent = cm;
       cm = cm;
-      makesCm = makes-it _ cm (simp (call .calling .good, sym (available-used caller function) ∙ call .available, room-there cm));
+      makesCm = makes-it _ cm (simp (call .calling .good, sym (available-used caller function) ∙ call .available, size-fits cm (call .fits), fine, room-there cm));
       cmBits = copies 2 (sequence Menu cm) ++ tenOnes;
-      sendsCm = sends-it cm (menu-writable (cmOffer caller function));
+      sendsCm = sends-it cm writable;
       heardCm = cm;
-      agreedCm = agrees-it cm (menu-small (cmOffer caller function)) (menu-writable (cmOffer caller function));
+      agreedCm = agrees-it cm (with-small (cmOffer caller function) blocks) writable;
       jmLent = jm;
       jm = jm;
-      makesJm = makes-it _ jm (simp (call .answering .good, menu-readable (cmOffer caller function), room-there jm));
+      makesJm = makes-it _ jm (simp (call .answering .good, with-readable (cmOffer caller function) blocks (size-fits cm (call .fits)), room-there jm));
       jmBits = copies 2 (sequence Menu jm) ++ tenOnes;
       sendsJm = sends-it jm (menu-writable (jmOffer answerer (offerOf cm)));
       heardJm = jm;

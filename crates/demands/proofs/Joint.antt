@@ -1,7 +1,7 @@
 -- The JM that is made holds exactly what is shared, and what is made reads back as it was meant. What is read back is the draft, and the
 -- draft's set of items and its PCM options hold a bit exactly where both ends do; item 0 is apart from the others.
 -- Assumes nothing.
-use Prim.Native.Nat.{ℕ, zero, suc, _<_, _+_, _*_, _/_, _%_, _^_}
+use Prim.Native.Nat.{ℕ, zero, suc, _<_, _≤_, _+_, _*_, _/_, _%_, _^_}
 use native.Mathlib.Nat.{one-mul}
 use native.Mathlib.Omega.{arith}
 use mathlib.Core.Path.{_≡_, refl, sym, ap, ap₂, _∙_}
@@ -9,6 +9,7 @@ use mathlib.Core.Bool.{Bool, true, false}
 use mathlib.Core.List.{List}
 use borrow.Author.Tests.{eq-eqb, ne-eqb, eqb-true}
 use lib.Dec.{ltb, eqb, lit<}
+use lib.ListN.{length}
 use Rattle.laws.specs.Logic.{when, both, either}
 use Rattle.laws.proofs.Logic.{both-neither, bit-of-test}
 use Rattle.menus.specs.declared.Offer.{Offer}
@@ -22,24 +23,25 @@ use Rattle.records.specs.declared.Record.{Record}
 use Rattle.records.specs.Record.{flag, noModes, modesAt, inUse}
 use Rattle.offers.specs.Offering.{bit, withItem0, accessOptions, cmAccess, cmOffer, withItem1, sharedItems, jmPcm, jmOffer}
 use Rattle.menus.specs.Pcm.{analogue, digital, v91, paired}
-use Rattle.offers.proofs.Making.{bit-small}
+use Rattle.offers.proofs.Making.{bit-small, size-fits}
 use Rattle.offers.proofs.Meaning.{menu-readable, menu-writable, read-back}
+use Rattle.offers.proofs.Fields.{offer-kept, with-readable, with-writable}
 use Rattle.offers.proofs.Saying.{cm-sayable, jm-sayable}
 use Rattle.demands.specs.Joint.{AcceptedRecord, cmOf, jmOf, has, filledIn, isAvailable, hasFor, pcmFor, saysCellular, SaysWhatTheRecordHas, HoldsWhatBothHave, HoldsWhatBothRecordsHave, IsReadBack}
 use Rattle.demands.specs.OneChoice.{Call}
 use Rattle.demands.proofs.Shared.{has-read, crosswise}
 
 -- what was meant is read
-cm-back : (own : Record) → AcceptedRecord own → (function : ℕ) → inUse own function .available ≡ 1 → offerOf (cmOf own function) ≡ cmOffer own function
-cm-back own good function there = read-back (cmOffer own function) (cm-sayable own (good .six) (good .good) function there)
+cm-back : (own : Record) → AcceptedRecord own → (function : ℕ) (blocks : List ℕ) → inUse own function .available ≡ 1 → offerOf (cmOf own function blocks) ≡ cmOffer own function
+cm-back own good function blocks there = offer-kept (cmOffer own function) blocks ∙ read-back (cmOffer own function) (cm-sayable own (good .six) (good .good) function there)
 
 pub jm-back : (own : Record) → AcceptedRecord own → (heard : List ℕ) → offerOf (jmOf own heard) ≡ jmOffer own (offerOf heard)
 jm-back own good heard = read-back (jmOffer own (offerOf heard)) (jm-sayable own (good .six) (good .good) (offerOf heard) (omega arith))
 
-pub cm-is-read-back : (own : Record) → AcceptedRecord own → (function : ℕ) → inUse own function .available ≡ 1 → IsReadBack (cmOf own function) (cmOffer own function)
-cm-is-read-back own good function there = record {
-  written = menu-writable (cmOffer own function);
-  read = menu-read (cmOf own function) (menu-readable (cmOffer own function)) ∙ ap offers (cm-back own good function there);
+pub cm-is-read-back : (own : Record) → AcceptedRecord own → (function : ℕ) (blocks : List ℕ) → inUse own function .available ≡ 1 → length (cmOf own function blocks) ≤ 64 → IsReadBack (cmOf own function blocks) (cmOffer own function)
+cm-is-read-back own good function blocks there short = record {
+  written = with-writable (cmOffer own function) blocks (size-fits (cmOf own function blocks) short);
+  read = menu-read (cmOf own function blocks) (with-readable (cmOffer own function) blocks (size-fits (cmOf own function blocks) short)) ∙ ap offers (cm-back own good function blocks there);
 }
 
 pub jm-is-read-back : (own : Record) → AcceptedRecord own → (heard : List ℕ) → IsReadBack (jmOf own heard) (jmOffer own (offerOf heard))
@@ -165,26 +167,26 @@ both-swap false true = refl
 both-swap false false = refl
 
 -- what the CM says is the record, read back
-module _ (own : Record) (good : AcceptedRecord own) (function : ℕ) (available : isAvailable own function ≡ true) where
-  pub says : offerOf (cmOf own function) ≡ cmOffer own function
-  says = cm-back own good function (eqb-true _ 1 (sym (available-used own function) ∙ available))
+module _ (own : Record) (good : AcceptedRecord own) (function : ℕ) (blocks : List ℕ) (available : isAvailable own function ≡ true) where
+  pub says : offerOf (cmOf own function blocks) ≡ cmOffer own function
+  says = cm-back own good function blocks (eqb-true _ 1 (sym (available-used own function) ∙ available))
 
-  said : {A : Type 0} (part : Offer → A) → part (offerOf (cmOf own function)) ≡ part (cmOffer own function)
+  said : {A : Type 0} (part : Offer → A) → part (offerOf (cmOf own function blocks)) ≡ part (cmOffer own function)
   said part = ap part says
 
-  pub cm-says-what-the-record-has : SaysWhatTheRecordHas own function (cmOf own function)
+  pub cm-says-what-the-record-has : SaysWhatTheRecordHas own function (cmOf own function blocks)
   unfolding when
   cm-says-what-the-record-has =
       let pcm = inUse own function .pcm in
       let used = pcm-used own function in
-      let options-are : (k : ℕ) → inSet (offerOf (cmOf own function) .«access_options») k ≡ inSet (accessOptions (offerOf (cmOf own function) .access) (bit (flag (own .cellular))) (bit false) (bit (flag (own .digital)))) k =
+      let options-are : (k : ℕ) → inSet (offerOf (cmOf own function blocks) .«access_options») k ≡ inSet (accessOptions (offerOf (cmOf own function blocks) .access) (bit (flag (own .cellular))) (bit false) (bit (flag (own .digital)))) k =
       λ k. said (λ o. inSet (o .«access_options») k) ∙ ap (λ (t : Bool). inSet (accessOptions t (bit (flag (own .cellular))) 0 (bit (flag (own .digital)))) k) (sym (said (λ o. o .access))) in
-      let b6-none : both (offerOf (cmOf own function) .access) false ≡ false = both-neither (offerOf (cmOf own function) .access) in
+      let b6-none : both (offerOf (cmOf own function blocks) .access) false ≡ false = both-neither (offerOf (cmOf own function blocks) .access) in
       record {
         named = said (λ o. o .function);
-        items = λ i low high. has-read (cmOf own function) i high ∙ said (λ o. inSet (o .items) i) ∙ beside-item-0 (ltb 0 pcm) (inUse own function .items) i low ∙ sym (has-used own function i);
+        items = λ i low high. has-read (cmOf own function blocks) i high ∙ said (λ o. inSet (o .items) i) ∙ beside-item-0 (ltb 0 pcm) (inUse own function .items) i low ∙ sym (has-used own function i);
         pcm = said (λ o. o .pcm) ∙ sym used;
-        item0 = has-read (cmOf own function) 0 (lit< tt) ∙ said (λ o. inSet (o .items) 0) ∙ item-0-told (ltb 0 pcm) (inUse own function .items) ∙ ap (λ (n : ℕ). ltb 0 n) (sym used);
+        item0 = has-read (cmOf own function blocks) 0 (lit< tt) ∙ said (λ o. inSet (o .items) 0) ∙ item-0-told (ltb 0 pcm) (inUse own function .items) ∙ ap (λ (n : ℕ). ltb 0 n) (sym used);
         lapm = said (λ o. o .lapm);
         access = said (λ o. o .access) ∙ ap (λ (n : ℕ). either (flag (own .access)) (ltb 0 n)) (sym used);
         accessB5 = options-are 0 ∙ b5-there _ (flag (own .cellular)) false (flag (own .digital));
@@ -193,18 +195,18 @@ module _ (own : Record) (good : AcceptedRecord own) (function : ℕ) (available 
       }
 
 -- from both records
-module _ (caller answerer : Record) (function : ℕ) (call : Call caller answerer function) where
+module _ (caller answerer : Record) (function : ℕ) (blocks : List ℕ) (call : Call caller answerer function blocks) where
   abbrev cm : Offer
   cm = cmOffer caller function
 
   abbrev sent : List ℕ
-  sent = cmOf caller function
+  sent = cmOf caller function blocks
 
   abbrev answered : List ℕ
   answered = jmOf answerer sent
 
   asked-for : offerOf sent ≡ cm
-  asked-for = says caller (call .calling) function (call .available)
+  asked-for = says caller (call .calling) function blocks (call .available)
 
   answered-with : offerOf answered ≡ jmOffer answerer cm
   answered-with = jm-back answerer (call .answering) sent ∙ ap (jmOffer answerer) asked-for
@@ -212,7 +214,7 @@ module _ (caller answerer : Record) (function : ℕ) (call : Call caller answere
   from-records : (i : ℕ) → 0 < i → i < 13 → has answered i ≡ both (hasFor caller function i) (hasFor answerer function i)
   from-records i low high =
       jm-holds-what-both-have answerer (call .answering) sent .items i low high
-      ∙ ap₂ both (ap (λ (o : Offer). hasFor answerer (o .function) i) asked-for) (cm-says-what-the-record-has caller (call .calling) function (call .available) .items i low high)
+      ∙ ap₂ both (ap (λ (o : Offer). hasFor answerer (o .function) i) asked-for) (cm-says-what-the-record-has caller (call .calling) function blocks (call .available) .items i low high)
       ∙ both-swap (hasFor answerer function i) (hasFor caller function i)
 
   -- the PCM options, with what the CM says put in
@@ -247,7 +249,7 @@ module _ (caller answerer : Record) (function : ℕ) (call : Call caller answere
       (ap (λ (o : Offer). o .«access_options») answered-with
       ∙ ap₂ (λ (t : Bool) (b5 : ℕ). accessOptions t b5 (bit (flag (answerer .cellular))) (bit (flag (answerer .digital)))) (sym (ap (λ (o : Offer). o .access) answered-with)) b5-theirs)
 
-  pub jm-holds-what-both-records-have : HoldsWhatBothRecordsHave caller answerer function (jmOf answerer (cmOf caller function))
+  pub jm-holds-what-both-records-have : HoldsWhatBothRecordsHave caller answerer function (jmOf answerer (cmOf caller function blocks))
   jm-holds-what-both-records-have =
       let bits = crossed (both (hasFor caller function 1) (hasFor answerer function 1)) (pcmFor caller function) (pcmFor answerer function) in
       record {

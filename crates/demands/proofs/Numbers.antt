@@ -18,16 +18,21 @@ use Rattle.laws.proofs.Computed.{below}
 use Rattle.octets.specs.declared.Purpose.the-variants.{Reading}
 use Rattle.octets.specs.Octets.{bad, category}
 use Rattle.octets.specs.Lists.{octetFault, firstFault, opens, mostOctets, listFault}
-use Rattle.octets.proofs.Lists.{accepted-short}
+use Rattle.octets.proofs.Lists.{accepted-short, before-none}
 use Rattle.refusals.specs.Lent.{count, put}
 use Rattle.refusals.proofs.Outcomes.{counted}
 use Rattle.menus.specs.declared.Offer.{Offer}
-use Rattle.menus.specs.Groups.{Looked, place, opensGroup, firstGroup, looked}
+use Rattle.menus.specs.Groups.{Looked, place, opensGroup, firstGroup, looked, groupOf}
 use Rattle.menus.specs.Groups as looking
 use Rattle.menus.specs.Offer.{offerOf}
+use Rattle.fields.specs.Blocks.{blocksFault}
+use Rattle.fields.specs.Field.{fieldTag, fieldOctets, fieldOf}
+use Rattle.fields.proofs.Field.{field-none}
+use Rattle.fields.proofs.Finding.{field-few}
+use Rattle.records.specs.declared.Record.{Record}
 use Rattle.offers.specs.Offering.{cmOffer, jmOffer}
-use Rattle.offers.specs.Making.{menuOf}
-use Rattle.offers.proofs.Making.{menu-length, menu-short}
+use Rattle.offers.specs.Making.{menuOf, recordFault, functionFault, withField}
+use Rattle.offers.proofs.Making.{menu-length, menu-short, with-length, size-short}
 use Rattle.choices.specs.Choosing.{Chosen, none, item, pcm, refusal, choiceOf}
 use Rattle.framing.specs.Framing.{report}
 use Rattle.listening.specs.declared.Listener.{Listener}
@@ -51,7 +56,7 @@ use Rattle.demands.specs.WholeCall.{carried}
 use Rattle.demands.specs.Shared.{NotShared, cmUnread, jmUnread, itemMissing, nonePairs, Shared}
 use Rattle.stretches.specs.Hearing.{onceHeard}
 use Rattle.demands.specs.Refusals.{oneOf, RefusedBitsLeaveWhatIsLaidDown}
-use Rattle.demands.proofs.Refusals.{refusals-leave-what-is-laid-down}
+use Rattle.demands.proofs.Refusals.{behind-first, refusals-leave-what-is-laid-down}
 use Rattle.demands.specs.Numbers.{choiceNumber, stepNumber, heardNumber, placeNumber, NumbersAreToldApart, asChosen, ChoicesAreHandedOver}
 use Rattle.demands.proofs.Shared.{choice-is-shared}
 
@@ -246,7 +251,20 @@ numbers-are-told-apart = record {
   manyReports = λ rec bits. many-tells rec bits .number;
   places = λ octets t. looked-tells octets t .number;
   placesApart = λ octets octets′ t t′ e. looked-code-injective _ _ (looked-tells octets t .known) (looked-tells octets′ t′ .known) e;
-  cmSize = λ own function out size told. menu-size _ (cmOffer own function) out size told;
+  cmSize = λ own function blocks out size told.
+      let menu = withField (cmOffer own function) blocks in
+      let told-all = counted _ menu out size told in
+      let faults = recordFault own ∷ functionFault own function ∷ [] in
+      let short = size-short menu (behind-first faults _ _ (told-all .fine)) in
+      in-range 4 64 size (omega (arith, told-all .all, with-length (cmOffer own function) blocks, menu-length (cmOffer own function))) (omega (arith, told-all .all, short));
+  cmAlone = λ own function out size told.
+      let offer = cmOffer own function in
+      let all = counted _ (withField offer []) out size told .all in
+      let alone : length (fieldOf []) ≡ 0 = ap length (field-none [] refl) in
+      in-range 4 7 size (omega (arith, all, alone, with-length offer [], menu-length offer)) (omega (arith, all, alone, with-length offer [], menu-short offer));
+  fieldSize = λ heard out size told.
+      let told-all = counted _ (fieldOctets (groupOf heard fieldTag)) out size told in
+      in-range 0 38 size (omega arith) (omega (arith, told-all .all, field-few heard (before-none _ _ (told-all .fine) .0)));
   jmSize = λ own heard out size told. menu-size _ (jmOffer own (offerOf heard)) out size told;
   manyReportsApart = λ rec rec′ bits bits′ e. told-code-injective _ _ (many-tells rec bits .known) (many-tells rec′ bits′ .known) e;
 }

@@ -23,7 +23,9 @@ use Rattle.records.specs.declared.Record.{Record}
 use Rattle.records.specs.Record.{flag, inUse}
 use Rattle.records.proofs.Good.{good-modes, none-used}
 use Rattle.offers.specs.Offering.{bit, withItem1, cmOffer, jmOffer}
+use Rattle.offers.proofs.Making.{size-fits}
 use Rattle.offers.proofs.Meaning.{menu-readable}
+use Rattle.offers.proofs.Fields.{with-readable}
 use Rattle.menus.specs.Pcm.{v91, paired}
 use Rattle.menus.proofs.Pcm.{paired-small}
 use Rattle.choices.specs.Choosing.{Chosen, none, item, pcm, refusal, choiceOf}
@@ -165,7 +167,7 @@ module _ (own : Record) (good : AcceptedRecord own) (heard : List ℕ) (readable
   }
 
 -- between two records
-module _ (caller answerer : Record) (function : ℕ) (call : Call caller answerer function) where
+module _ (caller answerer : Record) (function : ℕ) (blocks : List ℕ) (call : Call caller answerer function blocks) where
   abbrev asks : ℕ
   asks = pcmFor caller function
 
@@ -173,16 +175,16 @@ module _ (caller answerer : Record) (function : ℕ) (call : Call caller answere
   answers = pcmFor answerer function
 
   abbrev sent : List ℕ
-  sent = cmOf caller function
+  sent = cmOf caller function blocks
 
   abbrev answered : List ℕ
   answered = jmOf answerer sent
 
   from-both : HoldsWhatBothRecordsHave caller answerer function answered
-  from-both = jm-holds-what-both-records-have caller answerer function call
+  from-both = jm-holds-what-both-records-have caller answerer function blocks call
 
   sent-readable : listFault Reading sent ≡ 0
-  sent-readable = menu-readable (cmOffer caller function)
+  sent-readable = with-readable (cmOffer caller function) blocks (size-fits sent (call .fits))
 
   -- b5 and b6 that pair need no test of item 1: both ends have it
   item-1 : (own : Record) → AcceptedRecord own → 0 < pcmFor own function % 4 → hasFor own function 1 ≡ true
@@ -203,7 +205,7 @@ module _ (caller answerer : Record) (function : ℕ) (call : Call caller answere
 
   -- the PCM options of the JM are those that pair
   pcm-exact : offerOf answered .pcm ≡ paired asks answers
-  pcm-exact = pcm-from-records caller answerer function call ∙ exact-by (both (hasFor caller function 1) (hasFor answerer function 1)) (eqb (paired asks answers % 4) 0) refl refl
+  pcm-exact = pcm-from-records caller answerer function blocks call ∙ exact-by (both (hasFor caller function 1) (hasFor answerer function 1)) (eqb (paired asks answers % 4) 0) refl refl
 
   -- PCM options that are chosen are those of the JM
   pcm-named : (options : ℕ) → SharedPcm sent answered options → options ≡ paired asks answers
@@ -219,10 +221,10 @@ module _ (caller answerer : Record) (function : ℕ) (call : Call caller answere
     items = λ i low high. from-both .items i low high ∙ nothing .items i low high;
   }
 
-  pub both-ends-name-one-choice : (heardCm heardJm : List ℕ) → heardCm ≡ cmOf caller function → heardJm ≡ jmOf answerer heardCm → BothNameOneChoice caller answerer function heardCm heardJm
+  pub both-ends-name-one-choice : (heardCm heardJm : List ℕ) → heardCm ≡ cmOf caller function blocks → heardJm ≡ jmOf answerer heardCm → BothNameOneChoice caller answerer function blocks heardCm heardJm
   both-ends-name-one-choice heardCm heardJm asSent asAnswered =
-      let named : callerNames caller function heardJm ≡ answererNames answerer sent = ap (choiceOf sent) (asAnswered ∙ ap (jmOf answerer) asSent) in
-      let says : (c : Chosen) → callerNames caller function heardJm ≡ c → Shared sent answered c = λ c e. subst (Shared sent answered) (sym named ∙ e) (choice-is-shared sent answered .shared) in
+      let named : callerNames caller function blocks heardJm ≡ answererNames answerer sent = ap (choiceOf sent) (asAnswered ∙ ap (jmOf answerer) asSent) in
+      let says : (c : Chosen) → callerNames caller function blocks heardJm ≡ c → Shared sent answered c = λ c e. subst (Shared sent answered) (sym named ∙ e) (choice-is-shared sent answered .shared) in
       record {
         same = ap₂ choiceOf (sym asSent) asAnswered;
         offered = λ n e. not-refused answerer (call .answering) sent sent-readable n (says (refusal n) e);

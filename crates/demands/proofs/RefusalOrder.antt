@@ -4,7 +4,7 @@ use Prim.Native.Nat.{ℕ}
 use native.Mathlib.Omega.{arith}
 use mathlib.Core.Path.{_≡_, refl, sym, ap, subst, _∙_}
 use mathlib.Core.Bool.{Bool, true, false, not}
-use mathlib.Core.List.{List, [], _∷_}
+use mathlib.Core.List.{List, [], _∷_, _++_}
 use borrow.Author.Tests.{eqb-true, eqb-false, ltb-true}
 use lib.Dec.{ltb, eqb}
 use lib.ListN.{length, drop}
@@ -23,10 +23,12 @@ use Rattle.sequences.specs.Line.{sequence, copies, cj}
 use Rattle.sequences.specs.Writing.{writtenCj}
 use Rattle.sequences.proofs.Lines.{cj-length}
 use Rattle.menus.specs.declared.Offer.{Offer}
-use Rattle.menus.specs.Groups.{looked}
+use Rattle.menus.specs.Groups.{looked, groupOf}
 use Rattle.menus.specs.Offer.{offers, offerOf, menuRead}
 use Rattle.menus.specs.Offer as reading
-use Rattle.offers.specs.Making.{recordFault, functionFault}
+use Rattle.fields.specs.Blocks.{blocksFault}
+use Rattle.fields.specs.Field.{fieldTag, fieldOctets, packingFault}
+use Rattle.offers.specs.Making.{recordFault, functionFault, sizeFault}
 use Rattle.choices.specs.Choosing.{refusal, chosenFrom, onRead, choiceOf}
 use Rattle.steps.specs.declared.Session.{Session}
 use Rattle.steps.specs.Table.{over, rows}
@@ -36,6 +38,7 @@ use Rattle.steps.proofs.Refused.{in-time-is-not-refused}
 use Rattle.demands.specs.Joint.{cmOf, jmOf}
 use Rattle.octets.proofs.Lists.{before-none}
 use Rattle.demands.specs.Shared.{NotShared, cmUnread, jmUnread, itemMissing, nonePairs, Shared}
+use Rattle.demands.proofs.Refusals.{behind}
 use Rattle.demands.proofs.Shared.{choice-is-shared}
 use Rattle.demands.specs.RefusalOrder.{firstOf, answered, tooMany, noCallFunction, takes, octetFaults, stepFaults, RefusalsComeInOrder}
 
@@ -96,11 +99,13 @@ put-answer f new out =
     either-way (λ (o : WriteOutcome). o .answer ≡ answered (count (length new)) lent.refusal f) (eqb f 0) (record { answer = count (length new); buffer = front new out }) (record { answer = lent.refusal f; buffer = out })
     (λ none. sym (answered-fine _ lent.refusal f none)) (λ some. sym (answered-refused (count (length new)) lent.refusal f some))
 
-put-first : (f g : ℕ) (new out : List ℕ) → put (before f g) new out .answer ≡ answered (count (length new)) lent.refusal (firstOf (f ∷ g ∷ []))
-put-first f g new out = put-answer (before f g) new out ∙ ap (λ (h : ℕ). answered (count (length new)) lent.refusal (before f h)) (last-fault g)
+-- by any faults, the last of which is told as it is
+first-behind : (faults : List ℕ) (last : ℕ) → behind faults last ≡ firstOf (faults ++ last ∷ [])
+first-behind [] last = last-fault last
+first-behind (f ∷ faults) last = ap (before f) (first-behind faults last)
 
-put-second : (f g h : ℕ) (new out : List ℕ) → put (before f (before g h)) new out .answer ≡ answered (count (length new)) lent.refusal (firstOf (f ∷ g ∷ h ∷ []))
-put-second f g h new out = put-answer (before f (before g h)) new out ∙ ap (λ (i : ℕ). answered (count (length new)) lent.refusal (before f (before g i))) (last-fault h)
+put-behind : (faults : List ℕ) (last : ℕ) (new out : List ℕ) → put (behind faults last) new out .answer ≡ answered (count (length new)) lent.refusal (firstOf (faults ++ last ∷ []))
+put-behind faults last new out = put-answer (behind faults last) new out ∙ ap (answered (count (length new)) lent.refusal) (first-behind faults last)
 
 -- the choice: CM, then JM
 by-reads : (cm jm : Offer) (f g : ℕ) (cm-fine jm-fine : Bool) → eqb f 0 ≡ cm-fine → eqb g 0 ≡ jm-fine
@@ -174,10 +179,13 @@ refusals-come-in-order = record {
   octets = list-fault;
   read = λ octets. refl;
   looked = λ octets t. refl;
-  written = λ kind octets n out. put-first (listFault (Writing kind) octets) (roomFault (copies n (sequence kind octets)) out) (copies n (sequence kind octets)) out;
+  written = λ kind octets n out. put-behind (listFault (Writing kind) octets ∷ []) (roomFault (copies n (sequence kind octets)) out) (copies n (sequence kind octets)) out;
   writtenCj = cj-answer;
-  cm = λ own function out. put-second (recordFault own) (functionFault own function) (roomFault (cmOf own function) out) (cmOf own function) out;
-  jm = λ own heard out. put-second (recordFault own) (listFault Reading heard) (roomFault (jmOf own heard) out) (jmOf own heard) out;
+  field = λ heard out.
+      let group = groupOf heard fieldTag in
+      put-behind (listFault Reading heard ∷ packingFault group ∷ blocksFault (fieldOctets group) ∷ []) (roomFault (fieldOctets group) out) (fieldOctets group) out;
+  cm = λ own function blocks out. put-behind (recordFault own ∷ functionFault own function ∷ sizeFault (cmOf own function blocks) ∷ blocksFault blocks ∷ []) (roomFault (cmOf own function blocks) out) (cmOf own function blocks) out;
+  jm = λ own heard out. put-behind (recordFault own ∷ listFault Reading heard ∷ []) (roomFault (jmOf own heard) out) (jmOf own heard) out;
   choice = choice-order;
   eleven = choice-eleven;
   step = step-order;

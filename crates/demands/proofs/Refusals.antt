@@ -13,6 +13,7 @@ use lib.Seq.{drop-at}
 use Rattle.laws.specs.Logic.{when, either}
 use Rattle.laws.proofs.Logic.{either-way, clash}
 use Rattle.laws.proofs.Rest.{front-length}
+use Rattle.refusals.specs.Refusals.{before}
 use Rattle.refusals.specs.Lent.{Said, count, roomFault, put}
 use Rattle.refusals.specs.Lent as lent
 use Rattle.octets.specs.declared.Kind.{Kind}
@@ -22,7 +23,10 @@ use Rattle.octets.proofs.Lists.{before-none}
 use Rattle.sequences.specs.Line.{sequence, copies}
 use Rattle.sequences.specs.Line.{cj as cjBits}
 use Rattle.sequences.specs.Writing.{written}
-use Rattle.offers.specs.Making.{recordFault, functionFault}
+use Rattle.menus.specs.Groups.{groupOf}
+use Rattle.fields.specs.Blocks.{blocksFault}
+use Rattle.fields.specs.Field.{fieldTag, fieldOctets, packingFault}
+use Rattle.offers.specs.Making.{recordFault, functionFault, sizeFault}
 use Rattle.codes.specs.declared.Asked.{Asked}
 use Rattle.codes.specs.declared.Asked.the-variants.{Known, Unknown}
 use Rattle.codes.specs.Writing.{writtenAs}
@@ -73,15 +77,25 @@ room-tested new out =
     (λ _ e. absurd (let z : ⊥ = omega (arith, e) in z))
     (λ roomy _. ltb-false (length out) (length new) roomy)
 
--- with a test before that of the room, and with two
-keeps-behind : (f : ℕ) (new out : List ℕ) → KeepsItsBytes out (put (when (eqb f 0) (roomFault new out) f) new out)
-keeps-behind f new out = put-keeps _ new out (λ e. room-tested new out (before-none f (roomFault new out) e .1))
+-- with any tests before that of the room
+abbrev pub behind : List ℕ → ℕ → ℕ
+behind [] last = last
+behind (f ∷ faults) last = before f (behind faults last)
 
-keeps-behind-two : (f g : ℕ) (new out : List ℕ) → KeepsItsBytes out (put (when (eqb f 0) (when (eqb g 0) (roomFault new out) g) f) new out)
-keeps-behind-two f g new out = put-keeps _ new out (λ e. room-tested new out (before-none g (roomFault new out) (before-none f _ e .1) .1))
+-- where nothing is refused, none of them is
+pub behind-first : (faults : List ℕ) (f last : ℕ) → behind faults (before f last) ≡ 0 → f ≡ 0
+behind-first [] f last e = before-none f last e .0
+behind-first (g ∷ faults) f last e = behind-first faults f last (before-none g (behind faults (before f last)) e .1)
+
+behind-none : (faults : List ℕ) (last : ℕ) → behind faults last ≡ 0 → last ≡ 0
+behind-none [] last e = e
+behind-none (f ∷ faults) last e = behind-none faults last (before-none f (behind faults last) e .1)
+
+keeps-behind : (faults : List ℕ) (new out : List ℕ) → KeepsItsBytes out (put (behind faults (roomFault new out)) new out)
+keeps-behind faults new out = put-keeps _ new out (λ e. room-tested new out (behind-none faults (roomFault new out) e))
 
 written-keeps : (kind : Kind) (octets : List ℕ) (n : ℕ) (out : List ℕ) → KeepsItsBytes out (written kind octets n out)
-written-keeps kind octets n out = keeps-behind (listFault (Writing kind) octets) (copies n (sequence kind octets)) out
+written-keeps kind octets n out = keeps-behind (listFault (Writing kind) octets ∷ []) (copies n (sequence kind octets)) out
 
 as-asked : (asked : Asked) (octets : List ℕ) (n : ℕ) (out : List ℕ) → KeepsItsBytes out (writtenAs asked octets n out)
 as-asked (Known kind) octets n out = written-keeps kind octets n out
@@ -92,8 +106,11 @@ buffers-kept = record {
   writing = written-keeps;
   writingAs = as-asked;
   writingCj = λ out. put-keeps (roomFault cjBits out) cjBits out (room-tested cjBits out);
-  makingCm = λ own function out. keeps-behind-two (recordFault own) (functionFault own function) (cmOf own function) out;
-  makingJm = λ own heardCm out. keeps-behind-two (recordFault own) (listFault Reading heardCm) (jmOf own heardCm) out;
+  makingCm = λ own function blocks out. keeps-behind (recordFault own ∷ functionFault own function ∷ sizeFault (cmOf own function blocks) ∷ blocksFault blocks ∷ []) (cmOf own function blocks) out;
+  makingJm = λ own heardCm out. keeps-behind (recordFault own ∷ listFault Reading heardCm ∷ []) (jmOf own heardCm) out;
+  readingField = λ heardCm out.
+      let group = groupOf heardCm fieldTag in
+      keeps-behind (listFault Reading heardCm ∷ packingFault group ∷ blocksFault (fieldOctets group) ∷ []) (fieldOctets group) out;
 }
 
 -- what a bit tells, as one number more than its refusal

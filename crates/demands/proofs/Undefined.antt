@@ -78,7 +78,7 @@ abbrev jmBy : Record → List ℕ → ℕ → Offer → WriteOutcome
 jmBy own out fault offer = put (before (recordFault own) (before fault (roomFault (menuOf (jmOffer own offer)) out))) (menuOf (jmOffer own offer)) out
 
 -- reading the same goes on to the same
-changes-nothing-by : (menu longer : List ℕ) → listFault Reading menu ≡ 0 → listFault Reading longer ≡ 0 → offerOf longer ≡ offerOf menu → ChangesNothing menu longer
+pub changes-nothing-by : (menu longer : List ℕ) → listFault Reading menu ≡ 0 → listFault Reading longer ≡ 0 → offerOf longer ≡ offerOf menu → ChangesNothing menu longer
 changes-nothing-by menu longer read longer-read same =
     let reads : menuRead longer ≡ menuRead menu = menu-read longer longer-read ∙ ap offers same ∙ sym (menu-read menu read) in
     record {

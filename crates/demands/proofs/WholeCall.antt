@@ -25,7 +25,8 @@ use Rattle.steps.proofs.Ranges.{step-keeps-range, answerer-start-is-in-range}
 use Rattle.steps.proofs.Runs.{stays-over}
 use Rattle.records.specs.declared.Record.{Record}
 use Rattle.offers.specs.Offering.{cmOffer}
-use Rattle.offers.proofs.Meaning.{menu-readable}
+use Rattle.offers.proofs.Making.{size-fits}
+use Rattle.offers.proofs.Fields.{with-readable}
 use Rattle.demands.specs.Joint.{cmOf, jmOf}
 use Rattle.demands.specs.OneChoice.{Call, NothingShared, callerNames, answererNames, BothNameOneChoice}
 use Rattle.demands.specs.TableLines.{InTime}
@@ -273,33 +274,33 @@ mode-by c fit some =
     (λ _ h. absurd (some (kind-none c (eqb-true _ _ h)))) (λ _ h. h) (fits-mode c fit)
 
 -- both ends
-module _ (calls answers : Record) (function : ℕ) (call : Call calls answers function) (heardCm heardJm : List ℕ) (asSent : heardCm ≡ cmOf calls function) (asAnswered : heardJm ≡ jmOf answers heardCm) where
+module _ (calls answers : Record) (function : ℕ) (blocks : List ℕ) (call : Call calls answers function blocks) (heardCm heardJm : List ℕ) (asSent : heardCm ≡ cmOf calls function blocks) (asAnswered : heardJm ≡ jmOf answers heardCm) where
   abbrev named : Chosen
-  named = callerNames calls function heardJm
+  named = callerNames calls function blocks heardJm
 
-  settles : BothNameOneChoice calls answers function heardCm heardJm
-  settles = both-ends-name-one-choice calls answers function call heardCm heardJm asSent asAnswered
+  settles : BothNameOneChoice calls answers function blocks heardCm heardJm
+  settles = both-ends-name-one-choice calls answers function blocks call heardCm heardJm asSent asAnswered
 
   named-fits : fits named ≡ true
   named-fits =
-      subst (λ (jm : List ℕ). fits (choiceOf (cmOf calls function) jm) ≡ true) (sym (asAnswered ∙ ap (jmOf answers) asSent))
-      (choice-case answers (call .answering) (cmOf calls function) (menu-readable (cmOffer calls function)) (λ (c : Chosen). fits c ≡ true) none-fits item-fits pcm-fits)
+      subst (λ (jm : List ℕ). fits (choiceOf (cmOf calls function blocks) jm) ≡ true) (sym (asAnswered ∙ ap (jmOf answers) asSent))
+      (choice-case answers (call .answering) (cmOf calls function blocks) (with-readable (cmOffer calls function) blocks (size-fits (cmOf calls function blocks) (call .fits))) (λ (c : Chosen). fits c ≡ true) none-fits item-fits pcm-fits)
 
   -- none is carried exactly where nothing is shared, and otherwise a mode
-  pub nothing-carried : carried (callerNames calls function heardJm) ≡ 0 → NothingShared calls answers function
+  pub nothing-carried : carried (callerNames calls function blocks heardJm) ≡ 0 → NothingShared calls answers function
   nothing-carried z = settles .clears (none-by named named-fits z)
 
-  pub carries-nothing : NothingShared calls answers function → carried (callerNames calls function heardJm) ≡ 0
+  pub carries-nothing : NothingShared calls answers function → carried (callerNames calls function blocks heardJm) ≡ 0
   carries-nothing nothing = ap carried (settles .cleared nothing) ∙ none-carried
 
-  pub carried-alike : carried (callerNames calls function heardJm) ≡ carried (answererNames answers heardCm)
+  pub carried-alike : carried (callerNames calls function blocks heardJm) ≡ carried (answererNames answers heardCm)
   carried-alike = ap carried (settles .same)
 
   pub both-ends-end-with-the-named-choice : (callerStart te answererStart : ℕ) (callerEvents answererEvents : List Timed) (last : Due) → isTe te ≡ true
-      → InOrder (callerFrom callerStart te) (callerOrder te (carried (callerNames calls function heardJm))) callerEvents
+      → InOrder (callerFrom callerStart te) (callerOrder te (carried (callerNames calls function blocks heardJm))) callerEvents
       → EndsJoint (carried (answererNames answers heardCm)) last
       → InOrder (answererFrom answererStart) (answererOrder last (carried (answererNames answers heardCm))) answererEvents
-      → BothEndWith (carried (callerNames calls function heardJm)) calls answers function callerStart te answererStart callerEvents answererEvents
+      → BothEndWith (carried (callerNames calls function blocks heardJm)) calls answers function callerStart te answererStart callerEvents answererEvents
   both-ends-end-with-the-named-choice callerStart te answererStart callerEvents answererEvents last given callerOrdered closing answererOrdered =
       let tests = both-true _ _ named-fits in
       record {

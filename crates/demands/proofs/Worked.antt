@@ -8,6 +8,9 @@ use Rattle.refusals.specs.Lent.{put}
 use Rattle.items.specs.Items.{places, placeOf, hasItem, setOf, inSet, itemBits, modulationOctet}
 use Rattle.menus.specs.Groups.{firstGroup, frontPart, groupOf}
 use Rattle.menus.specs.Offer.{menuRead}
+use Rattle.laws.specs.Tests.{every}
+use Rattle.fields.specs.Blocks.{blocksBehind}
+use Rattle.fields.specs.Field.{fieldOf}
 use Rattle.records.specs.Record.{modesAt, anyBad, badRecord}
 use Rattle.menus.specs.Pcm.{paired}
 use Rattle.offers.specs.Making.{modulationGroup}
@@ -19,5 +22,5 @@ use Rattle.steps.specs.Stepping.{elapsed, applies, findRow, timed, steppedIn}
 use Rattle.demands.specs.Worked.{AllHold, done, _and_, worked}
 
 pub worked-values-hold : AllHold worked
-unfolding when both either firstFault untilCategory framed framedAll sequence copies put places placeOf hasItem setOf itemBits modulationOctet modesAt anyBad badRecord modulationGroup joined firstGroup frontPart groupOf menuRead inSet paired lowestFrom pcmChoice itemChoice chosenFrom rows inRange elapsed applies findRow timed steppedIn
+unfolding when both either firstFault untilCategory framed framedAll sequence copies put places placeOf hasItem setOf itemBits modulationOctet modesAt anyBad badRecord modulationGroup every blocksBehind fieldOf joined firstGroup frontPart groupOf menuRead inSet paired lowestFrom pcmChoice itemChoice chosenFrom rows inRange elapsed applies findRow timed steppedIn
 worked-values-hold = refl and refl and refl and refl and refl and refl and refl and refl and refl and refl and refl and refl and refl and refl and refl and refl and refl and refl and refl and refl and done

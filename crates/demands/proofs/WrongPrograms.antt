@@ -101,8 +101,8 @@ written-counts kind octets n out = let line = copies n (sequence kind octets) in
 cj-counts : (out : List ℕ) → CountsWhatItWrote cjBits (writtenCj out)
 cj-counts out = put-counts (roomFault cjBits out) cjBits out
 
-cm-counts : (own : Record) (function : ℕ) (out : List ℕ) → CountsWhatItWrote (cmOf own function) (madeCm own function out)
-cm-counts own function out = let menu = cmOf own function in put-counts (before (recordFault own) (before (functionFault own function) (roomFault menu out))) menu out
+cm-counts : (own : Record) (function : ℕ) (blocks out : List ℕ) → CountsWhatItWrote (cmOf own function blocks) (madeCm own function blocks out)
+cm-counts own function blocks out = put-counts _ (cmOf own function blocks) out
 
 jm-counts : (own : Record) (heardCm out : List ℕ) → CountsWhatItWrote (jmOf own heardCm) (madeJm own heardCm out)
 jm-counts own heardCm out = let menu = jmOf own heardCm in put-counts (before (recordFault own) (before (listFault Reading heardCm) (roomFault menu out))) menu out

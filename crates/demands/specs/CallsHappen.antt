@@ -4,6 +4,7 @@ use Prim.Native.Nat.{ℕ}
 use mathlib.Core.Path.{_≡_}
 use mathlib.Core.Bool.{true}
 use mathlib.Core.List.{List, [], _∷_}
+use Rattle.fields.specs.Blocks.{blocksFault}
 use Rattle.records.specs.declared.Record.{Record}
 use Rattle.steps.specs.Table.{ansam, agreedJm, cjSent, agreedCm, sigC, cj, tick}
 use Rattle.steps.specs.Session.{isTe, callerFrom, answererFrom}
@@ -14,10 +15,11 @@ use Rattle.demands.specs.OneChoice.{Call, callerNames}
 use Rattle.demands.specs.WholeCall.{carried, Due, InOrder, callerOrder, EndsJoint, answererOrder}
 use Rattle.demands.specs.AnyEvents.{Carrying}
 
--- a call for data, both ends from time 0 on and Te 500: what `both-ends-end-with-the-named-choice` assumes
-pub record Happens (choice : ℕ) (caller answerer : Record) (last : Due) (callerEvents answererEvents : List Timed) : Type 0 where
-  pub call : Call caller answerer 6
-  pub named : carried (callerNames caller 6 (jmOf answerer (cmOf caller 6))) ≡ choice
+-- a call for data, with these octets of blocks, both ends from time 0 on and Te 500: what `both-ends-end-with-the-named-choice` assumes
+pub record Happens (choice : ℕ) (caller answerer : Record) (blocks : List ℕ) (last : Due) (callerEvents answererEvents : List Timed) : Type 0 where
+  pub call : Call caller answerer 6 blocks
+  pub sent : blocksFault blocks ≡ 0
+  pub named : carried (callerNames caller 6 blocks (jmOf answerer (cmOf caller 6 blocks))) ≡ choice
   pub te : isTe 500 ≡ true
   pub calling : InOrder (callerFrom 0 500) (callerOrder 500 choice) callerEvents
   pub closing : EndsJoint choice last
@@ -42,10 +44,12 @@ lastly event value = record { event = event; value = value; least = 0 }
 
 pub record CallsHappen : Type 0 where
   -- "Record A, data: items 1, 3, 4, 12, LAPM."; "answerer with items 3, 4, 8, no LAPM: .. choice item 3."
-  pub goesOn : Happens 3 (forData (1 ∷ 3 ∷ 4 ∷ 12 ∷ []) 0 1 0) (forData (3 ∷ 4 ∷ 8 ∷ []) 0 0 0) (lastly cj 0) (callerHas 3) (answererHas 3 cj 0)
-  -- the same, where "sigC of the chosen item" comes for CJ
-  pub bySigC : Happens 3 (forData (1 ∷ 3 ∷ 4 ∷ 12 ∷ []) 0 1 0) (forData (3 ∷ 4 ∷ 8 ∷ []) 0 0 0) (lastly sigC 3) (callerHas 3) (answererHas 3 sigC 3)
+  pub goesOn : Happens 3 (forData (1 ∷ 3 ∷ 4 ∷ 12 ∷ []) 0 1 0) (forData (3 ∷ 4 ∷ 8 ∷ []) 0 0 0) [] (lastly cj 0) (callerHas 3) (answererHas 3 cj 0)
+  -- the same with a block in CM: its country code B5, an empty provider code, and "31 2E 34" as the rest
+  pub withBlocks : Happens 3 (forData (1 ∷ 3 ∷ 4 ∷ 12 ∷ []) 0 1 0) (forData (3 ∷ 4 ∷ 8 ∷ []) 0 0 0) (5 ∷ 0xB5 ∷ 0 ∷ 0x31 ∷ 0x2E ∷ 0x34 ∷ []) (lastly cj 0) (callerHas 3) (answererHas 3 cj 0)
+  -- without one, where "sigC of the chosen item" comes for CJ
+  pub bySigC : Happens 3 (forData (1 ∷ 3 ∷ 4 ∷ 12 ∷ []) 0 1 0) (forData (3 ∷ 4 ∷ 8 ∷ []) 0 0 0) [] (lastly sigC 3) (callerHas 3) (answererHas 3 sigC 3)
   -- "caller with item 1, analogue PCM"; "Answerer with items 1, 3, digital PCM, digital line: .. choice PCM, b6."
-  pub byPcm : Happens 18 (forData (1 ∷ []) 1 0 0) (forData (1 ∷ 3 ∷ []) 2 0 1) (lastly cj 0) (callerHas 18) (answererHas 18 cj 0)
+  pub byPcm : Happens 18 (forData (1 ∷ []) 1 0 0) (forData (1 ∷ 3 ∷ []) 2 0 1) [] (lastly cj 0) (callerHas 18) (answererHas 18 cj 0)
   -- "answerer with item 5 only: .. choice none."
-  pub clears : Happens 0 (forData (1 ∷ 3 ∷ 4 ∷ 12 ∷ []) 0 1 0) (forData (5 ∷ []) 0 0 0) (lastly cj 0) (callerHas 0) (answererHas 0 cj 0)
+  pub clears : Happens 0 (forData (1 ∷ 3 ∷ 4 ∷ 12 ∷ []) 0 1 0) (forData (5 ∷ []) 0 0 0) [] (lastly cj 0) (callerHas 0) (answererHas 0 cj 0)

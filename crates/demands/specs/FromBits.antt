@@ -43,11 +43,11 @@ pub data Agreed (octets : List ℕ) : List Report → Type 0 where
   here : {later : List Report} → Agreed octets (message Menu octets true ∷ later)
   later : {other : Report} {rest : List Report} → isAgreed other ≡ false → Agreed octets rest → Agreed octets (other ∷ rest)
 
--- a call: the caller makes CM and sends it; the answerer agrees a CM, makes JM for it and sends it; the caller agrees a JM
-pub record Exchange (caller answerer : Record) (function : ℕ) : Type 0 where
+-- a call: the caller makes CM, with the octets of its own blocks, and sends it; the answerer agrees a CM, makes JM for it and sends it; the caller agrees a JM
+pub record Exchange (caller answerer : Record) (function : ℕ) (blocks : List ℕ) : Type 0 where
   pub cmLent : List ℕ
   pub cm : List ℕ
-  pub makesCm : Makes (madeCm caller function cmLent) cm
+  pub makesCm : Makes (madeCm caller function blocks cmLent) cm
   pub cmBits : List ℕ
   pub sendsCm : Sends cm cmBits
   pub heardCm : List ℕ
@@ -61,7 +61,7 @@ pub record Exchange (caller answerer : Record) (function : ℕ) : Type 0 where
   pub agreedJm : Agreed heardJm (reports fresh jmBits)
 
 -- "Where both menus arrive as they were sent": they do, and each end hands over the choice from what it sent and what it heard
-pub record ExchangeEnds (caller answerer : Record) (function : ℕ) (e : Exchange caller answerer function) : Type 0 where
+pub record ExchangeEnds (caller answerer : Record) (function : ℕ) (blocks : List ℕ) (e : Exchange caller answerer function blocks) : Type 0 where
   pub cmArrives : e .heardCm ≡ e .cm
   pub jmArrives : e .heardJm ≡ e .jm
   pub ends : (callerStart te answererStart : ℕ) (callerEvents answererEvents : List Timed) (last : Due) → isTe te ≡ true

@@ -19,16 +19,16 @@ use Rattle.records.specs.declared.Modes.{Modes}
 use Rattle.records.specs.Record.{flag, noModes, badRecord}
 use Rattle.offers.specs.Offering.{bit, cmAccess, cmOffer, jmOffer}
 use Rattle.menus.specs.Pcm.{analogue, digital, v91}
-use Rattle.offers.specs.Making.{menuOf}
+use Rattle.offers.specs.Making.{menuOf, withField}
 
 -- a record of six functions that is not "bad (10)"
 pub record AcceptedRecord (own : Record) : Type 0 where
   pub six : length (own .functions) ≡ 6
   pub good : badRecord own ≡ false
 
--- the CM that a record makes for a function: what `madeCm` writes
-abbrev pub cmOf : Record → ℕ → List ℕ
-cmOf own function = menuOf (cmOffer own function)
+-- the CM that a record makes for a function, with the octets of its own blocks: what `madeCm` writes
+abbrev pub cmOf : Record → ℕ → List ℕ → List ℕ
+cmOf own function blocks = withField (cmOffer own function) blocks
 
 -- the JM that a record makes for what it heard: what `madeJm` writes
 abbrev pub jmOf : Record → List ℕ → List ℕ

@@ -1,9 +1,10 @@
 -- Demand 2: "Where both menus arrive as they were sent, both ends name the same choice, and by it they clear exactly when no mode and no PCM
 -- pairing is shared for that function."
-use Prim.Native.Nat.{ℕ, _<_, _*_}
+use Prim.Native.Nat.{ℕ, _<_, _≤_, _*_}
 use mathlib.Core.Path.{_≡_}
 use mathlib.Core.Bool.{true, false}
 use mathlib.Core.List.{List}
+use lib.ListN.{length}
 use Rattle.laws.specs.Logic.{both}
 use Rattle.records.specs.declared.Record.{Record}
 use Rattle.menus.specs.Offer.{offerOf}
@@ -24,32 +25,34 @@ pub record LowestOfBoth (caller answerer : Record) (function i : ℕ) : Type 0 w
   pub shared : both (hasFor caller function i) (hasFor answerer function i) ≡ true
   pub lowest : (lower : ℕ) → 0 < lower → lower < i → both (hasFor caller function lower) (hasFor answerer function lower) ≡ false
 
--- a call between two records that are accepted, for a function that the caller has
-pub record Call (caller answerer : Record) (function : ℕ) : Type 0 where
+-- a call between two records that are accepted, for a function that the caller has, with octets of its own blocks in a CM that does not "pass 64
+-- octets with the field"
+pub record Call (caller answerer : Record) (function : ℕ) (blocks : List ℕ) : Type 0 where
   pub calling : AcceptedRecord caller
   pub answering : AcceptedRecord answerer
   pub available : isAvailable caller function ≡ true
+  pub fits : length (cmOf caller function blocks) ≤ 64
 
 -- what the caller names: from the CM it sent and the JM it heard
-abbrev pub callerNames : Record → ℕ → List ℕ → Chosen
-callerNames caller function heardJm = choiceOf (cmOf caller function) heardJm
+abbrev pub callerNames : Record → ℕ → List ℕ → List ℕ → Chosen
+callerNames caller function blocks heardJm = choiceOf (cmOf caller function blocks) heardJm
 
 -- what the answerer names: from the CM it heard and the JM it sent for that
 abbrev pub answererNames : Record → List ℕ → Chosen
 answererNames answerer heardCm = choiceOf heardCm (jmOf answerer heardCm)
 
 -- for menus that were heard
-pub record BothNameOneChoice (caller answerer : Record) (function : ℕ) (heardCm heardJm : List ℕ) : Type 0 where
+pub record BothNameOneChoice (caller answerer : Record) (function : ℕ) (blocks heardCm heardJm : List ℕ) : Type 0 where
   -- "both ends name the same choice"
-  pub same : callerNames caller function heardJm ≡ answererNames answerer heardCm
+  pub same : callerNames caller function blocks heardJm ≡ answererNames answerer heardCm
   -- it is no refusal
-  pub offered : (n : ℕ) → callerNames caller function heardJm ≡ refusal n → ⊥
+  pub offered : (n : ℕ) → callerNames caller function blocks heardJm ≡ refusal n → ⊥
   -- "they clear exactly when no mode and no PCM pairing is shared"
-  pub clears : callerNames caller function heardJm ≡ none → NothingShared caller answerer function
-  pub cleared : NothingShared caller answerer function → callerNames caller function heardJm ≡ none
+  pub clears : callerNames caller function blocks heardJm ≡ none → NothingShared caller answerer function
+  pub cleared : NothingShared caller answerer function → callerNames caller function blocks heardJm ≡ none
   -- otherwise it is what both records have
-  pub asItem : (i : ℕ) → callerNames caller function heardJm ≡ item i → LowestOfBoth caller answerer function i
-  pub asPcm : (options : ℕ) → callerNames caller function heardJm ≡ pcm options → options ≡ paired (pcmFor caller function) (pcmFor answerer function)
+  pub asItem : (i : ℕ) → callerNames caller function blocks heardJm ≡ item i → LowestOfBoth caller answerer function i
+  pub asPcm : (options : ℕ) → callerNames caller function blocks heardJm ≡ pcm options → options ≡ paired (pcmFor caller function) (pcmFor answerer function)
 
 -- nothing for a JM, from our record and a CM that another maker's modem sent. PCM b5 and b6 go in "only when item 1 is shared", so where no
 -- item is, "b7 if both have V.91" is left

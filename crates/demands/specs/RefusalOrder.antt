@@ -7,6 +7,7 @@ use mathlib.Core.List.{List, [], _∷_}
 use lib.Dec.{ltb, eqb}
 use lib.ListN.{length, drop}
 use Rattle.laws.specs.Logic.{when, both}
+use Rattle.laws.specs.Tests.{every}
 use Rattle.octets.specs.declared.Kind.{Kind}
 use Rattle.octets.specs.declared.Purpose.{Purpose}
 use Rattle.octets.specs.declared.Purpose.the-variants.{Reading, Writing}
@@ -16,10 +17,12 @@ use Rattle.refusals.specs.Lent.{count}
 use Rattle.refusals.specs.Lent as lent
 use Rattle.sequences.specs.Line.{sequence, copies}
 use Rattle.sequences.specs.Writing.{written, writtenCj}
-use Rattle.menus.specs.Groups.{firstGroup, looked}
+use Rattle.menus.specs.Groups.{firstGroup, looked, groupOf}
 use Rattle.menus.specs.Groups as looking
 use Rattle.menus.specs.Offer.{offers, offerOf, menuRead}
 use Rattle.menus.specs.Offer as reading
+use Rattle.fields.specs.Blocks.{blocksOf, fits}
+use Rattle.fields.specs.Field.{fieldOctets, isPacked, fieldRead}
 use Rattle.records.specs.declared.Record.{Record}
 use Rattle.records.specs.Record.{flag, inUse, badRecord}
 use Rattle.offers.specs.Making.{madeCm, madeJm}
@@ -70,6 +73,14 @@ badFault own = when (badRecord own) 10 0
 abbrev pub unavailable : Record → ℕ → ℕ
 unavailable own function = when (flag (inUse own function .available)) 0 5
 
+-- 15, "more than four bits left over, or leftover bits or options not 0"
+abbrev pub badlyPacked : List ℕ → ℕ
+badlyPacked group = when (isPacked group) 0 15
+
+-- 14, "block longer than what remains or a code that doesn't fit in it"
+abbrev pub badBlocks : List ℕ → ℕ
+badBlocks octets = when (every fits (blocksOf octets)) 0 14
+
 -- "steps 7, 9, 8; 10 for a lent .. session comes before all of these": 10 for its range, 7 "event after over", 9 "event of the other end; item
 -- not 1 to 12; PCM options not 1 to 7", 8 "clock"
 abbrev pub stepFaults : Session → ℕ → ℕ → ℕ → List ℕ
@@ -90,9 +101,12 @@ pub record RefusalsComeInOrder : Type 0 where
       ≡ answered (count (length (copies n (sequence kind octets)))) lent.refusal (firstOf (listFault (Writing kind) octets ∷ tooShort (copies n (sequence kind octets)) out ∷ []))
   -- "CJ has its own call: once, 30 bits, or refusal 6."
   pub writtenCj : (out : List ℕ) → writtenCj out .answer ≡ answered (count 30) lent.refusal (when (ltb (length out) 30) 6 0)
+  -- document 02, Req 02: "order in reading 4, 5, 3, 15, 14, 6, in making a CM 10, 5, 4, 14, 6"
+  pub field : (heard out : List ℕ) → fieldRead heard out .answer
+      ≡ answered (count (length (fieldOctets (groupOf heard 15)))) lent.refusal (firstOf (listFault Reading heard ∷ badlyPacked (groupOf heard 15) ∷ badBlocks (fieldOctets (groupOf heard 15)) ∷ tooShort (fieldOctets (groupOf heard 15)) out ∷ []))
+  pub cm : (own : Record) (function : ℕ) (blocks out : List ℕ) → madeCm own function blocks out .answer
+      ≡ answered (count (length (cmOf own function blocks))) lent.refusal (firstOf (badFault own ∷ unavailable own function ∷ tooMany (cmOf own function blocks) ∷ badBlocks blocks ∷ tooShort (cmOf own function blocks) out ∷ []))
   -- "menus from records 10, then the heard CM's refusals or 5, then 6"
-  pub cm : (own : Record) (function : ℕ) (out : List ℕ) → madeCm own function out .answer
-      ≡ answered (count (length (cmOf own function))) lent.refusal (firstOf (badFault own ∷ unavailable own function ∷ tooShort (cmOf own function) out ∷ []))
   pub jm : (own : Record) (heard out : List ℕ) → madeJm own heard out .answer
       ≡ answered (count (length (jmOf own heard))) lent.refusal (firstOf (badFault own ∷ listFault Reading heard ∷ tooShort (jmOf own heard) out ∷ []))
   -- "the choice CM, JM, 11"

@@ -19,6 +19,7 @@ use Rattle.listening.specs.declared.Listener.{Listener}
 use Rattle.listening.specs.Record.{inRange, fresh}
 use Rattle.listening.specs.Hearing.{refusal, refusedBit, heardBit, ManyOutcome, taking, heardBits}
 use Rattle.stretches.specs.Hearing.{onceHeard, reports}
+use Rattle.fields.specs.Field.{fieldRead}
 use Rattle.records.specs.declared.Record.{Record}
 use Rattle.offers.specs.Making.{madeCm, madeJm}
 use Rattle.steps.specs.declared.Session.{Session}
@@ -48,8 +49,9 @@ pub record LentBuffersKeepTheirBytes : Type 0 where
   pub writing : (kind : Kind) (octets : List ℕ) (n : ℕ) (out : List ℕ) → KeepsItsBytes out (written kind octets n out)
   pub writingAs : (asked : Asked) (octets : List ℕ) (n : ℕ) (out : List ℕ) → KeepsItsBytes out (writtenAs asked octets n out)
   pub writingCj : (out : List ℕ) → KeepsItsBytes out (writtenCj out)
-  pub makingCm : (own : Record) (function : ℕ) (out : List ℕ) → KeepsItsBytes out (madeCm own function out)
+  pub makingCm : (own : Record) (function : ℕ) (blocks out : List ℕ) → KeepsItsBytes out (madeCm own function blocks out)
   pub makingJm : (own : Record) (heardCm out : List ℕ) → KeepsItsBytes out (madeJm own heardCm out)
+  pub readingField : (heardCm out : List ℕ) → KeepsItsBytes out (fieldRead heardCm out)
 
 -- a bit that was heard and refused: it is in the past, the framing goes on at this place, and "All these store nothing", so "Stored octets
 -- stay readable": both messages are as they were, in kind and in every octet

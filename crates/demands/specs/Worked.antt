@@ -55,7 +55,7 @@ abbrev pub Holds : Case → Type 0
 Holds (stands kind octets line) = sequence kind octets ≡ line
 Holds (writes kind octets room said bits) = written kind octets 1 (lent room) ≡ record { answer = said; buffer = front bits (lent room) }
 Holds (reads octets read) = menuRead octets ≡ read
-Holds (asks own function menu) = madeCm own function (replicate (length menu) 0) ≡ made menu
+Holds (asks own function menu) = madeCm own function [] (replicate (length menu) 0) ≡ made menu
 Holds (answers own heard menu) = madeJm own heard (replicate (length menu) 0) ≡ made menu
 Holds (chooses cm jm chosen) = choiceOf cm jm ≡ chosen
 Holds (lasts entry now passed) = elapsed now entry ≡ passed

@@ -82,5 +82,5 @@ pub record NoNamedWrongProgramFits : Type 0 where
   pub counts : (kind : Kind) (octets : List ℕ) (n : ℕ) (out : List ℕ) → CountsWhatItWrote (copies n (sequence kind octets)) (written kind octets n out)
   pub size : (kind : Kind) (octets : List ℕ) (n : ℕ) → length (copies n (sequence kind octets)) ≡ n * (20 + 10 * length octets)
   pub countsCj : (out : List ℕ) → CountsWhatItWrote cj (writtenCj out)
-  pub countsCm : (own : Record) (function : ℕ) (out : List ℕ) → CountsWhatItWrote (cmOf own function) (madeCm own function out)
+  pub countsCm : (own : Record) (function : ℕ) (blocks out : List ℕ) → CountsWhatItWrote (cmOf own function blocks) (madeCm own function blocks out)
   pub countsJm : (own : Record) (heardCm out : List ℕ) → CountsWhatItWrote (jmOf own heardCm) (madeJm own heardCm out)
