@@ -3,13 +3,15 @@
 use mathlib.Core.Path.{ap}
 use lib.ListN.{replicate}
 use Rattle.plans.specs.declared.Answer.{Answer}
-use Rattle.plans.specs.Reading.{readText, marked}
+use Rattle.plans.specs.Reading.{readText, marked, blocksIn}
 use Rattle.plans.specs.Good.{ReadsAgain}
 use Rattle.plans.proofs.Kept.{plans-are-good}
-use Rattle.plans.proofs.Marks.{marked-are-marks, zeros-are-marks}
+use Rattle.plans.proofs.Marks.{marked-are-marks, zeros-are-marks, blocks-are-octets}
 use Rattle.plans.proofs.ReadBack.{plain-reads-back}
 
 pub reads-again : ReadsAgain
 reads-again text right =
-    let back = plain-reads-back (readText text .plan) (marked text (replicate 18000 0)) (plans-are-good text right) (marked-are-marks text (replicate 18000 0) zeros-are-marks) in
-    (ap (λ (answer : Answer). answer .plan) (back .0), back .1)
+    let back =
+    plain-reads-back (readText text .plan) (blocksIn text) (marked text (replicate 18000 0))
+    (plans-are-good text right) (blocks-are-octets text) (marked-are-marks text (replicate 18000 0) zeros-are-marks) in
+    (ap (λ (answer : Answer). answer .plan) (back .0), back .1, back .2)

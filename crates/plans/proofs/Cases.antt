@@ -13,8 +13,8 @@ use Rattle.laws.proofs.Logic.{either-way}
 use Rattle.names.specs.declared.Meaning.{Meaning}
 use Rattle.names.specs.Names.{end, line, function, mode, otherMode, part, wanted, quality, named}
 use Rattle.plans.specs.declared.Reading.{Reading}
-use Rattle.plans.specs.Text.{number}
-use Rattle.plans.specs.Reading.{beginning, inEnd, afterHome, afterWants, afterCall, afterTe, afterDamaged, firstBit, bits, done, mistaken, going, say, nameFunction, nameHome, nameMode, endWord, isSaid, beginNamed, firstWord, nameCall, functionWord, planning, nameWord, teWord, bitWord, readWord, recordOf, recordMistake, withHome, finishEnd, finishLine, noPlan, answer, missing, withDefault, finished, modeFirst, twice, home, setAt, store, firstOf}
+use Rattle.plans.specs.Text.{number, octet}
+use Rattle.plans.specs.Reading.{beginning, inEnd, afterHome, afterWants, afterCall, afterTe, afterDamaged, firstBit, bits, done, firstOctet, octets, mistaken, going, say, nameFunction, nameHome, nameMode, endWord, isSaid, beginNamed, firstWord, nameCall, functionWord, planning, nameWord, teWord, bitWord, octetWord, readWord, recordOf, recordMistake, withHome, finishEnd, finishLine, noPlan, answer, missing, withDefault, finished, modeFirst, twice, home, setAt, store, firstOf}
 use Rattle.plans.specs.Inner.{lacking}
 
 -- a word that names something: the kind of that decides too
@@ -116,17 +116,19 @@ module _ (r : Reading) (m : Meaning) (small : r .context < 256) where
 
 -- the end of a line
 module _ (r : Reading) where
-  pub line-ends : ((r .context ≡ beginning) ⊎ (r .context ≡ done)) ⊎ (r .context ≡ bits) → finishLine r ≡ going r beginning
+  pub line-ends : ((r .context ≡ beginning) ⊎ (r .context ≡ done)) ⊎ ((r .context ≡ bits) ⊎ (r .context ≡ octets)) → finishLine r ≡ going r beginning
   unfolding finishLine when either
   line-ends (inl (inl here)) = simp here
   line-ends (inl (inr here)) = simp here
-  line-ends (inr here) = simp here
+  line-ends (inr (inl here)) = simp here
+  line-ends (inr (inr here)) = simp here
 
   pub line-stands :
-      (r .context ≡ inEnd → ⊥) → ((r .context ≡ beginning) ⊎ (r .context ≡ done) → ⊥) → (r .context ≡ bits → ⊥)
+      (r .context ≡ inEnd → ⊥) → ((r .context ≡ beginning) ⊎ (r .context ≡ done) → ⊥) → ((r .context ≡ bits) ⊎ (r .context ≡ octets) → ⊥)
       → finishLine r ≡ mistaken r (r .context)
   unfolding finishLine when either
-  line-stands no-end no-more no-bits = simp (ne-eqb (r .context) inEnd no-end, ne-eqb (r .context) beginning (λ here. no-more (inl here)), ne-eqb (r .context) bits no-bits, ne-eqb (r .context) done (λ here. no-more (inr here)))
+  line-stands no-end no-more no-list =
+      simp (ne-eqb (r .context) inEnd no-end, ne-eqb (r .context) beginning (λ here. no-more (inl here)), ne-eqb (r .context) bits (λ here. no-list (inl here)), ne-eqb (r .context) octets (λ here. no-list (inr here)), ne-eqb (r .context) done (λ here. no-more (inr here)))
 
 -- the end of an end's line
 module _ (r line : Reading) (is-line : line ≡ withHome r) (wrong : ℕ) (is-wrong : wrong ≡ recordMistake (recordOf (line .plan) (line .end))) where
@@ -138,7 +140,7 @@ module _ (r line : Reading) (is-line : line ≡ withHome r) (wrong : ℕ) (is-wr
   unfolding finishEnd when
   end-right none = simp (← is-line, ← is-wrong, eq-eqb wrong 0 none)
 
--- a number is asked for, or a name
+-- a number is asked for, or an octet, or a name
 module _ (r : Reading) (text : List ℕ) where
   pub number-asked :
       (n : ℕ) → n ≡ number text → ((r .context ≡ afterTe) ⊎ (r .context ≡ firstBit)) ⊎ (r .context ≡ bits)
@@ -149,11 +151,17 @@ module _ (r : Reading) (text : List ℕ) where
   number-asked n is-number (inr here) =
       simp (ne-eqb (r .context) afterTe (omega (arith, here)), ne-eqb (r .context) firstBit (omega (arith, here)), eq-eqb (r .context) bits here, is-number)
 
-  pub name-asked :
-      (m : Meaning) → m ≡ named text → ((r .context ≡ afterTe) ⊎ (r .context ≡ firstBit) → ⊥) → (r .context ≡ bits → ⊥) → readWord r text ≡ nameWord r m
+  pub octet-asked : (n : ℕ) → n ≡ octet text → (r .context ≡ firstOctet) ⊎ (r .context ≡ octets) → readWord r text ≡ octetWord r n
   unfolding readWord when either
-  name-asked m is-meant none no-bits =
-      simp (ne-eqb (r .context) afterTe (λ here. none (inl here)), ne-eqb (r .context) firstBit (λ here. none (inr here)), ne-eqb (r .context) bits no-bits, is-meant)
+  octet-asked n is-octet (inl here) = simp (here, is-octet)
+  octet-asked n is-octet (inr here) = simp (here, is-octet)
+
+  pub name-asked :
+      (m : Meaning) → m ≡ named text → ((r .context ≡ afterTe) ⊎ (r .context ≡ firstBit) → ⊥) → (r .context ≡ bits → ⊥) → (r .context ≡ firstOctet → ⊥) → (r .context ≡ octets → ⊥)
+      → readWord r text ≡ nameWord r m
+  unfolding readWord when either
+  name-asked m is-meant none no-bits no-first no-octets =
+      simp (ne-eqb (r .context) afterTe (λ here. none (inl here)), ne-eqb (r .context) firstBit (λ here. none (inr here)), ne-eqb (r .context) bits no-bits, ne-eqb (r .context) firstOctet no-first, ne-eqb (r .context) octets no-octets, is-meant)
 
 -- the end of a text
 one-answer : {A : Type 0} (wrong : ℕ → A) (right : A) (t : Bool) (what missed : ℕ) → eqb what 0 ≡ t

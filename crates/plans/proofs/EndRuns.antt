@@ -21,7 +21,7 @@ use Rattle.plans.specs.Text.{wordLength}
 use Rattle.plans.specs.Reading.{inEnd, afterHome, afterWants, planned, home, place, setAt, added, say, nameHome, endWord, functionWord, nameWord}
 use Rattle.plans.specs.Plain.{functionName, wantsText, endText}
 use Rattle.plans.specs.Good.{GoodEnd}
-use Rattle.plans.proofs.Runs.{Stops, stops-joined, Run, nothing, spaced, comma, join}
+use Rattle.plans.proofs.Runs.{Stops, stops-joined, Found, Run, nothing, spaced, comma, join}
 use Rattle.plans.proofs.Words.{Known, known, names-known, lineOf, noLine, reading, name-run}
 use Rattle.plans.proofs.NameRuns.{names-stop, qualities-ordered, number-run, names-run}
 use Rattle.plans.proofs.Places.{set-here, set-there}
@@ -68,7 +68,7 @@ unfolding bytes wordLength when either
 comma-stops said = either-way Stops (ltb 0 (said / 4 % 4)) (bytes ",") [] (λ _. refl) (λ _. refl)
 
 -- a line whose functions are said
-module _ (end first : ℕ) (d : List ℕ) where
+module _ (end first : ℕ) (d : Found) where
   abbrev saying : ℕ → List ℕ → ℕ → Reading
   saying last sets context = reading (planned sets 0 0) (lineOf end last first) context
 
@@ -79,9 +79,9 @@ module _ (end first : ℕ) (d : List ℕ) where
   home-run last f sets some h is-new =
       let name = known-function f some h in
       let now = saying 0 (set sets (place end home) f) inEnd in
-      let of-name = spaced 1 refl (name-run (saying last sets afterHome) now d (name .0) function f (name .2) refl refl (simp is-new) refl) in
+      let of-name = spaced 1 refl (name-run (saying last sets afterHome) now d (name .0) function f (name .2) refl refl refl (simp is-new) refl) in
       join
-      (spaced 1 refl (name-run (saying last sets inEnd) (saying last sets afterHome) d (bytes "home") part 3 home-known refl refl refl refl))
+      (spaced 1 refl (name-run (saying last sets inEnd) (saying last sets afterHome) d (bytes "home") part 3 home-known refl refl refl refl refl))
       (names-stop function _ names)
       (subst (λ (text : List ℕ). Run (saying last sets afterHome) d text now d) (sym (name .1)) of-name)
 
@@ -103,13 +103,13 @@ module _ (end first : ℕ) (d : List ℕ) where
         let between = saying 0 (with numbers) afterWants in
         comma refl (spaced 1 refl
         (join {a = bytes "wants"} {b = 32 ∷ word}
-        (name-run (now numbers) between d (bytes "wants") part 4 wants-known refl refl refl refl)
+        (name-run (now numbers) between d (bytes "wants") part 4 wants-known refl refl refl refl refl)
         refl
-        (spaced 1 refl (name-run between (now (added numbers n)) d word wanted n is-known refl refl (said-read afterWants n numbers not-in) refl))))
+        (spaced 1 refl (name-run between (now (added numbers n)) d word wanted n is-known refl refl refl (said-read afterWants n numbers not-in) refl))))
 
     quality-run : (word : List ℕ) (n numbers : ℕ) → Known word quality n → inSet numbers n ≡ false → Run (now numbers) d (32 ∷ word) (now (added numbers n)) d
     unfolding nameWord endWord when either
-    quality-run word n numbers is-known not-in = spaced 1 refl (name-run (now numbers) (now (added numbers n)) d word quality n is-known refl refl (said-read inEnd n numbers not-in) refl)
+    quality-run word n numbers is-known not-in = spaced 1 refl (name-run (now numbers) (now (added numbers n)) d word quality n is-known refl refl refl (said-read inEnd n numbers not-in) refl)
 
     comma-run : (said numbers : ℕ) → Run (now numbers) d (commaText said) (now numbers) d
     unfolding bytes
@@ -146,7 +146,7 @@ unfolding bytes wordLength when either
 home-stops f = refl
 
 -- all that is said of an end of which nothing was said before
-module _ (plan : Plan) (end : ℕ) (good : GoodEnd plan end) (d sets : List ℕ) (sixteen : length sets ≡ 16) (new : (k : ℕ) → k < 8 → getD sets (place end k) 0 ≡ 0) (r : Reading) (name : List ℕ) (begun : Run r d name (reading (planned sets 0 0) (noLine end) inEnd) d) where
+module _ (plan : Plan) (end : ℕ) (good : GoodEnd plan end) (d : Found) (sets : List ℕ) (sixteen : length sets ≡ 16) (new : (k : ℕ) → k < 8 → getD sets (place end k) 0 ≡ 0) (r : Reading) (name : List ℕ) (begun : Run r d name (reading (planned sets 0 0) (noLine end) inEnd) d) where
   pub end-run : (first : ℕ) × Run r d (endText name plan end) (on end 0 first (withEnd plan end sets)) d
   end-run =
       let f = setAt plan end home in

@@ -22,7 +22,7 @@ use Rattle.plans.specs.declared.Reading.{Reading}
 use Rattle.plans.specs.Text.{wordLength}
 use Rattle.plans.specs.Reading.{inEnd, planned, place, setAt, added, firstOf, say, nameFunction, nameMode, endWord, nameWord}
 use Rattle.plans.specs.Plain.{functionName, functionText, functionsText}
-use Rattle.plans.proofs.Runs.{Stops, stops-joined, Run, nothing, spaced, comma, join}
+use Rattle.plans.proofs.Runs.{Stops, stops-joined, Found, Run, nothing, spaced, comma, join}
 use Rattle.plans.proofs.Words.{Known, meaning, names-known, function-known, lineOf, reading, name-run}
 use Rattle.plans.proofs.NameRuns.{names-stop, modes-ordered, names-run}
 use Rattle.plans.proofs.Places.{set-here, set-there}
@@ -54,7 +54,7 @@ withFunctions plan end sets f (suc count) = withFunctions plan end (set sets (pl
 abbrev pub on : ℕ → ℕ → ℕ → List ℕ → Reading
 on end function first sets = reading (planned sets 0 0) (lineOf end function first) inEnd
 
-module _ (end : ℕ) (d : List ℕ) where
+module _ (end : ℕ) (d : Found) where
   -- a function
   module _ (f : ℕ) (some : 0 < f) (h : f < 7) (sets : List ℕ) (sixteen : length sets ≡ 16) (is-new : getD sets (place end f) 0 ≡ 0) where
     function-read : (last first : ℕ) → nameWord (on end last first sets) (meaning function f) ≡ on end f (firstOf first f) (set sets (place end f) 1)
@@ -68,7 +68,7 @@ module _ (end : ℕ) (d : List ℕ) where
     mode-run : (first : ℕ) (word : List ℕ) (n numbers : ℕ) → Known word mode n → inSet numbers n ≡ false → Run (saying first numbers) d (32 ∷ word) (saying first (added numbers n)) d
     unfolding nameWord endWord nameMode say when either
     mode-run first word n numbers is-known not-in =
-        spaced 1 refl (name-run (saying first numbers) (saying first (added numbers n)) d word mode n is-known refl refl
+        spaced 1 refl (name-run (saying first numbers) (saying first (added numbers n)) d word mode n is-known refl refl refl
         (simp (ne-eqb f 0 (λ e. omega (arith, e, some)), set-here sets sixteen end f numbers, not-in, set-set)) refl)
 
     function-run :
@@ -80,7 +80,7 @@ module _ (end : ℕ) (d : List ℕ) where
         let first′ = firstOf first f in
         let named : inSet modes 0 ≡ true = first-item modes ∙ eq-eqb (modes % 2) 1 odd in
         let one : setOf (inSet modes) 1 ≡ 1 = simp named in
-        let of-name = name-run (on end last first sets) (saying first′ 1) d (name .0) function f (name .2) refl refl (function-read last first) refl in
+        let of-name = name-run (on end last first sets) (saying first′ 1) d (name .0) function f (name .2) refl refl refl (function-read last first) refl in
         let named-run = subst (λ (text : List ℕ). Run (on end last first sets) d text (saying first′ 1) d) (sym (name .1)) (spaced 1 refl of-name) in
         let of-modes = names-run (saying first′) d modes mode 16 (lit≤ tt) small (mode-run first′) names 1 names-known modes-ordered in
         let modes-from = subst (λ (n : ℕ). Run (saying first′ n) d (namesOf mode modes names) (saying first′ modes) d) one of-modes in

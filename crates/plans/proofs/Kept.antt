@@ -16,7 +16,7 @@ use Rattle.plans.specs.declared.Plan.{Plan}
 use Rattle.plans.specs.declared.Answer.{Answer}
 use Rattle.plans.specs.declared.Reading.{Reading}
 use Rattle.plans.specs.Text.{lineFeed, word}
-use Rattle.plans.specs.Reading.{beginning, inEnd, bits, done, noFunction, homeNotHad, pcmAlone, noCaller, noAnswerer, noCall, place, home, setAt, store, lacksCall, planning, isSaid, recordOf, recordMistake, withHome, finishEnd, mayEnd, finishLine, scanAfter, beginsWord, readByte, noPlan, fresh, answer, missing, withDefault, finished, readFrom}
+use Rattle.plans.specs.Reading.{beginning, inEnd, bits, octets, done, noFunction, homeNotHad, pcmAlone, noCaller, noAnswerer, noCall, place, home, setAt, store, lacksCall, planning, isSaid, recordOf, recordMistake, withHome, finishEnd, mayEnd, finishLine, scanAfter, beginsWord, readByte, noPlan, fresh, answer, missing, withDefault, finished, readFrom}
 use Rattle.plans.specs.Good.{GoodEnd, Good, PlansAreGood}
 use Rattle.plans.proofs.Marking.{zeros-at}
 use Rattle.plans.proofs.KeptSets.{Fits, Sound, sound-at, fits-home, fits-none}
@@ -68,12 +68,15 @@ module _ (r : Reading) (kept : Kept r) where
 
   may-end : mayEnd (r .context) ≡ true → within (r .context) ≡ false
   unfolding either both
-  may-end h = go (eqb (r .context) beginning) refl (eqb (r .context) bits) refl h
+  may-end h = go (eqb (r .context) beginning) refl (eqb (r .context) bits) refl (eqb (r .context) octets) refl h
     where
-      go : (a : Bool) → eqb (r .context) beginning ≡ a → (b : Bool) → eqb (r .context) bits ≡ b → either a (either b (eqb (r .context) done)) ≡ true → within (r .context) ≡ false
-      go true here b _ _ = at-context r kept beginning here
-      go false _ true here _ = at-context r kept bits here
-      go false _ false _ here = at-context r kept done here
+      go :
+          (a : Bool) → eqb (r .context) beginning ≡ a → (b : Bool) → eqb (r .context) bits ≡ b → (c : Bool) → eqb (r .context) octets ≡ c
+          → either a (either b (either c (eqb (r .context) done))) ≡ true → within (r .context) ≡ false
+      go true here b _ c _ _ = at-context r kept beginning here
+      go false _ true here c _ _ = at-context r kept bits here
+      go false _ false _ true here _ = at-context r kept octets here
+      go false _ false _ false _ here = at-context r kept done here
 
   -- what does not come is a mistake, unless its number is 0, and that is none of an end's line
   kept-line : Ended (finishLine r)

@@ -13,8 +13,8 @@ use Rattle.names.specs.declared.Meaning.{Meaning}
 use Rattle.names.specs.Names.{end, line, function, mode, otherMode, part, wanted, quality, named}
 use Rattle.steps.specs.Session.{isTe}
 use Rattle.plans.specs.declared.Reading.{Reading}
-use Rattle.plans.specs.Text.{number}
-use Rattle.plans.specs.Reading.{beginning, inEnd, afterHome, afterWants, afterCall, afterTe, afterDamaged, firstBit, bits, done, twice, planned, mistaken, going, beginLine, say, endWord, isSaid, beginNamed, firstWord, lacksCall, planning, functionWord, nameWord, teWord, atBits, readWord, recordOf}
+use Rattle.plans.specs.Text.{number, octet}
+use Rattle.plans.specs.Reading.{beginning, inEnd, afterHome, afterWants, afterCall, afterTe, afterDamaged, firstBit, bits, done, firstOctet, octets, twice, planned, mistaken, going, beginLine, say, endWord, isSaid, beginNamed, firstWord, lacksCall, planning, functionWord, nameWord, teWord, listed, oneOf, atBits, atOctets, readWord, recordOf}
 use Rattle.plans.proofs.Meant.{Meant, meant}
 use Rattle.plans.proofs.KeptLine.{Outside, within, Kept, Later, call-had, new-line, kept-wanted, kept-mode, kept-home, kept-function}
 
@@ -111,19 +111,19 @@ module _ (r : Reading) (kept : Kept r) where
       or-else true h = refl
       or-else false h = h
 
-  -- bits come behind bits
-  at-bits : atBits r ≡ true → within bits ≡ within (r .context)
-  unfolding either both
-  at-bits h = go (eqb (r .context) firstBit) refl h
+  -- an entry of a list comes behind others, and in no end's line
+  kept-listed : (first further last n : ℕ) → within first ≡ within further → oneOf (r .context) first further ≡ true → Later (listed r last n further)
+  unfolding either
+  kept-listed first further last n alike h = either-way Later (ltb last n) _ _ (λ _. slip (r .context)) (λ _ _. kept-going further (go (eqb (r .context) first) refl h))
     where
-      go : (t : Bool) → eqb (r .context) firstBit ≡ t → either t (eqb (r .context) bits) ≡ true → within bits ≡ within (r .context)
-      go true here _ = sym (at-context firstBit here)
-      go false _ here = sym (at-context bits here)
+      go : (t : Bool) → eqb (r .context) first ≡ t → either t (eqb (r .context) further) ≡ true → within further ≡ within (r .context)
+      go true here _ = sym alike ∙ sym (at-context first here)
+      go false _ here = sym (at-context further here)
 
   pub kept-word : (text : List ℕ) → Later (readWord r text)
-  unfolding readWord
+  unfolding readWord both
   kept-word text =
       either-way Later (eqb (r .context) afterTe) _ _ (λ t. kept-te t (number text))
-      (λ _. either-way Later (atBits r) _ _
-      (λ t. either-way Later (ltb 8999 (number text)) _ _ (λ _. slip (r .context)) (λ _ _. kept-going bits (at-bits t)))
-      (λ _. kept-name (named text) (meant text)))
+      (λ _. either-way Later (atBits r) _ _ (kept-listed firstBit bits 8999 (number text) refl)
+      (λ _. either-way Later (atOctets r) _ _ (kept-listed firstOctet octets 255 (octet text) refl)
+      (λ _. kept-name (named text) (meant text))))

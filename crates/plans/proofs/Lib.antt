@@ -12,6 +12,8 @@ pub mod FunctionRuns
 pub mod Accepted
 pub mod EndRuns
 pub mod LineRuns
+pub mod ListRuns
+pub mod BlockRuns
 pub mod DamageRuns
 pub mod ReadBack
 pub mod Meant
@@ -20,6 +22,7 @@ pub mod KeptLine
 pub mod KeptWords
 pub mod Kept
 pub mod Marks
+pub mod Writing
 pub mod Again
 pub mod Worked
 pub mod Pieces

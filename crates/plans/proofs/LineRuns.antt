@@ -3,7 +3,7 @@
 use Prim.Native.Nat.{ℕ, _<_, _%_}
 use mathlib.Core.Path.{_≡_, refl, sym, subst}
 use mathlib.Core.Bool.{true, false}
-use mathlib.Core.List.{List, _++_, append-assoc}
+use mathlib.Core.List.{List, _++_, append-assoc, append-nil}
 use borrow.Author.Tests.{lt-ltb}
 use lib.Dec.{ltb}
 use lib.ListN.{replicate}
@@ -19,7 +19,7 @@ use Rattle.plans.specs.Text.{wordLength}
 use Rattle.plans.specs.Reading.{beginning, inEnd, afterCall, afterTe, done, planned, home, setAt, isSaid, firstWord, lacksCall, planning, functionWord, nameWord, readWord, recordOf, withHome, finishEnd, finishLine}
 use Rattle.plans.specs.Plain.{functionName, decimal, callText}
 use Rattle.plans.specs.Good.{GoodEnd}
-use Rattle.plans.proofs.Runs.{Stops, Run, nothing, spaced, fed, join, word-run}
+use Rattle.plans.proofs.Runs.{Stops, Found, Run, nothing, spaced, fed, join, word-run}
 use Rattle.plans.proofs.Decimals.{decimal-read, decimal-spelled, decimal-some}
 use Rattle.plans.proofs.Words.{Known, known, Line, lineOf, noLine, reading, name-run}
 use Rattle.plans.proofs.NameRuns.{names-stop}
@@ -46,6 +46,10 @@ pub damaged-known : Known (bytes "damaged") line 7
 unfolding names bytes every namedBy sameList when both either
 damaged-known = known (bytes "damaged") line 7 tt
 
+pub blocks-known : Known (bytes "blocks") line 20
+unfolding names bytes every namedBy sameList when both either
+blocks-known = known (bytes "blocks") line 20 tt
+
 -- no function is called yet, or one that the caller has
 lacks-none : (sets : List ℕ) → lacksCall (planned sets 0 0) ≡ false
 unfolding lacksCall both
@@ -63,15 +67,15 @@ unfolding finishLine finishEnd withHome planning when
 end-finished plan end first sets good same-record same-home =
     simp (same-home, lt-ltb 0 (setAt plan end home) (has-home plan end good .0), same-record, no-mistake (recordOf plan end) (good .accepted), lacks-none sets)
 
-module _ (plan : Plan) (before : Line) (d : List ℕ) where
+module _ (plan : Plan) (before : Line) (d : Found) where
   -- the first word of a line
   end-begins : (word : List ℕ) (n : ℕ) → Known word end n → isSaid plan n ≡ false → Run (reading plan before beginning) d word (reading plan (noLine n) inEnd) d
   unfolding nameWord firstWord when either
-  end-begins word n is-known is-new = name-run (reading plan before beginning) (reading plan (noLine n) inEnd) d word end n is-known refl refl (simp is-new) refl
+  end-begins word n is-known is-new = name-run (reading plan before beginning) (reading plan (noLine n) inEnd) d word end n is-known refl refl refl (simp is-new) refl
 
   pub line-begins : (word : List ℕ) (n : ℕ) → Known word line n → isSaid plan n ≡ false → Run (reading plan before beginning) d word (reading plan (noLine 0) n) d
   unfolding nameWord firstWord when either
-  line-begins word n is-known is-new = name-run (reading plan before beginning) (reading plan (noLine 0) n) d word line n is-known refl refl (simp is-new) refl
+  line-begins word n is-known is-new = name-run (reading plan before beginning) (reading plan (noLine 0) n) d word line n is-known refl refl refl (simp is-new) refl
 
   -- the caller's line
   pub caller-begins : isSaid plan 1 ≡ false → Run (reading plan before beginning) d (bytes "caller   ") (reading plan (noLine 1) inEnd) d
@@ -94,7 +98,7 @@ module _ (plan : Plan) (before : Line) (d : List ℕ) where
     te-begins r′ text is-new run = fed is-fed refl (join {a = bytes "Te"} {b = replicate 8 32 ++ text} (line-begins (bytes "Te") 6 te-known is-new) refl (spaced 8 refl run))
 
 -- the function called, and Te
-module _ (plan : Plan) (is-called : setAt plan 1 (plan .function) % 2 ≡ 1) (d : List ℕ) where
+module _ (plan : Plan) (is-called : setAt plan 1 (plan .function) % 2 ≡ 1) (d : Found) where
   abbrev called : ℕ → ℕ → ℕ → Reading
   called function te context = reading (planned (plan .sets) function te) (noLine 0) context
 
@@ -103,7 +107,7 @@ module _ (plan : Plan) (is-called : setAt plan 1 (plan .function) % 2 ≡ 1) (d 
   call-run some h =
       let f = plan .function in
       let name = known-function f some h in
-      let is-read = name-run (called 0 0 afterCall) (called f 0 done) d (name .0) function f (name .2) refl refl (simp (lacks-not (planned (plan .sets) f 0) is-called)) refl in
+      let is-read = name-run (called 0 0 afterCall) (called f 0 done) d (name .0) function f (name .2) refl refl refl (simp (lacks-not (planned (plan .sets) f 0) is-called)) refl in
       subst (λ (text : List ℕ). Run (called 0 0 afterCall) d text (called f 0 done) d) (sym (name .1)) (spaced 1 refl is-read)
 
   te-run : isTe (plan .te) ≡ true → plan .te < 100000 → Run (called (plan .function) 0 afterTe) d (decimal (plan .te)) (called (plan .function) (plan .te) done) d
@@ -111,7 +115,7 @@ module _ (plan : Plan) (is-called : setAt plan 1 (plan .function) % 2 ≡ 1) (d 
   te-run is-te small =
       let te = plan .te in
       word-run (called (plan .function) 0 afterTe) (called (plan .function) te done) d d (decimal te) (decimal-some te small) (decimal-spelled te)
-      (simp (decimal-read te small, is-te, lacks-not (planned (plan .sets) (plan .function) te) is-called)) refl refl
+      (simp (decimal-read te small, is-te, lacks-not (planned (plan .sets) (plan .function) te) is-called)) refl refl (append-nil (d .octets))
 
   te-stops : Stops (bytes "\nTe        " ++ decimal (plan .te))
   unfolding bytes wordLength when either

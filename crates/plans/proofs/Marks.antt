@@ -1,18 +1,20 @@
--- Marks stay marks, whatever text is read: each bit is marked or not. So the marks of a text, over zeros, are those of its plain form.
+-- Marks stay marks, whatever text is read: each bit is marked or not. So the marks of a text, over zeros, are those of its plain form. What it gives as
+-- blocks are octets.
 -- Assumes nothing.
 use Prim.Native.Nat.{ℕ, zero, suc}
-use mathlib.Core.Path.{_≡_, refl, ap₂, _∙_}
-use mathlib.Core.Bool.{true}
-use mathlib.Core.List.{List, [], _∷_}
-use lib.Dec.{leb, eqb}
+use mathlib.Core.Path.{_≡_, refl, ap, ap₂, _∙_}
+use mathlib.Core.Bool.{Bool, true}
+use mathlib.Core.List.{List, [], _∷_, _++_}
+use lib.Dec.{leb, ltb, eqb}
 use lib.ListN.{set, replicate, length-set, length-replicate}
 use Rattle.laws.specs.Logic.{both}
 use Rattle.laws.specs.Tests.{every}
 use Rattle.laws.proofs.Logic.{either-way, both-true}
+use Rattle.laws.proofs.Computed.{every-joined}
 use Rattle.plans.specs.declared.Reading.{Reading}
-use Rattle.plans.specs.Text.{word, number}
-use Rattle.plans.specs.Reading.{between, scanAfter, readByte, fresh, readText, bitPlace, isBit, markedBit, markedFrom, marked}
-use Rattle.plans.specs.Good.{Marks}
+use Rattle.plans.specs.Text.{word, number, noOctet}
+use Rattle.plans.specs.Reading.{between, scanAfter, readByte, fresh, readText, bitPlace, isBit, markedBit, markedFrom, marked, octetAt, oneOctet, octetsFrom, blocksIn}
+use Rattle.plans.specs.Good.{Marks, Octets, BlocksAreOctets}
 use Rattle.plans.proofs.Marking.{bits, zeros}
 
 -- a bit is marked
@@ -48,3 +50,17 @@ marks-none n all = record { both-ends = length-replicate n 0 ∙ all; bits = bit
 
 pub zeros-are-marks : Marks (replicate 18000 0)
 zeros-are-marks = marks-none 18000 refl
+
+-- one octet, and those of a text
+one-is : (n : ℕ) → Octets (oneOctet n)
+unfolding every both
+one-is n = either-way Octets (ltb n noOctet) (n ∷ []) [] (λ small. ap (λ (t : Bool). both t true) small) (λ _. refl)
+
+octets-on : (text : List ℕ) (r : Reading) (scan : ℕ) → Octets (octetsFrom r scan text)
+unfolding octetsFrom every
+octets-on [] r scan = refl
+octets-on (b ∷ rest) r scan = every-joined (λ (n : ℕ). ltb n 256) (oneOctet (octetAt r scan b rest)) _ (one-is (octetAt r scan b rest)) (octets-on rest (readByte r scan b rest) (scanAfter scan b))
+
+pub blocks-are-octets : BlocksAreOctets
+unfolding blocksIn every
+blocks-are-octets text = either-way Octets (eqb (readText text .what) 0) (octetsFrom fresh between text) [] (λ _. octets-on text fresh between) (λ _. refl)

@@ -19,7 +19,7 @@ use Rattle.names.specs.Names.{Entry, names, mode, quality, nameOf, namesOf}
 use Rattle.plans.specs.declared.Reading.{Reading}
 use Rattle.plans.specs.Text.{wordLength}
 use Rattle.plans.specs.Reading.{added}
-use Rattle.plans.proofs.Runs.{Stops, stops-joined, Run, nothing, join}
+use Rattle.plans.proofs.Runs.{Stops, stops-joined, Found, Run, nothing, join}
 use Rattle.plans.proofs.Words.{Known, isEntry, known-entry}
 
 -- the items of a number are the number
@@ -77,7 +77,7 @@ unfolding names ordered bytes both when
 qualities-ordered = refl
 
 -- readings that differ in a set of numbers, of which ever more are read
-module _ (at : ℕ → Reading) (d : List ℕ) (set : ℕ) where
+module _ (at : ℕ → Reading) (d : Found) (set : ℕ) where
   abbrev pub upTo : ℕ → Reading
   upTo k = at (setOf (inSet set) k)
 

@@ -1,18 +1,19 @@
 -- Laws about the numbers of a plan: sets, and numbers in digits.
 -- Assumes nothing.
-use Prim.Native.Nat.{ℕ, _<_, _*_, _%_, _^_}
+use Prim.Native.Nat.{ℕ, _<_, _≤_, _*_, _%_, _^_}
 use native.Mathlib.Omega.{arith}
 use mathlib.Core.Path.{_≡_, refl}
 use mathlib.Core.Bool.{true}
-use lib.Dec.{ltb, eqb, eqb→eq}
+use lib.Dec.{leb, ltb, eqb, eqb→eq, lit≤}
 use Rattle.laws.specs.Logic.{when, both}
 use Rattle.laws.specs.Tests.{allBelow}
 use Rattle.laws.proofs.Logic.{either-way}
 use Rattle.laws.proofs.Computed.{below}
-use borrow.Author.Tests.{lt-ltb, ltb-true, ltb-false}
+use borrow.Author.Tests.{lt-ltb, ltb-true, ltb-false, leb-true}
 use Rattle.io.specs.Digits.{Fewest}
 use Rattle.printing.specs.Page.{Page, typed, TypedDecimal}
 use Rattle.printing.proofs.Pages.{typed-decimal-unique}
+use Rattle.plans.specs.Text.{hexValue}
 use Rattle.plans.specs.Plain.{decimal}
 
 -- the weight of a number below 16 fits a set
@@ -42,3 +43,18 @@ decimal-typed p after n small number =
 -- a number that is not 0 is some
 pub some : (n : ℕ) → (n ≡ 0 → ⊥) → ltb 0 n ≡ true
 some n not-0 = lt-ltb 0 n (omega (arith, not-0))
+
+-- a hexadecimal digit counts for no more than none
+hex-within : (b : ℕ) → hexValue b ≤ 256
+unfolding hexValue
+hex-within b =
+    let P : ℕ → Type 0 = λ (n : ℕ). n ≤ 256 in
+    either-way P (ltb b 48) _ _ (λ _. lit≤ tt)
+    (λ _. either-way P (leb b 57) _ _ (λ t. omega (arith, leb-true b 57 t))
+    (λ _. either-way P (ltb b 65) _ _ (λ _. lit≤ tt)
+    (λ _. either-way P (leb b 70) _ _ (λ t. omega (arith, leb-true b 70 t))
+    (λ _. either-way P (ltb b 97) _ _ (λ _. lit≤ tt)
+    (λ _. either-way P (leb b 102) _ _ (λ t. omega (arith, leb-true b 102 t)) (λ _. lit≤ tt))))))
+
+pub hex-low : (n b : ℕ) → n ≡ hexValue b → n ≤ 256
+hex-low n b is-value = rw is-value (hex-within b)

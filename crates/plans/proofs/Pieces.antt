@@ -16,7 +16,7 @@ use Rattle.names.specs.Names.{function, part, names, namesOf}
 use Rattle.plans.specs.declared.Plan.{Plan}
 use Rattle.plans.specs.declared.Piece.{Piece}
 use Rattle.plans.specs.Reading.{added}
-use Rattle.plans.specs.Plain.{functionName, functionsText, endText, decimal, bitsText, damageText, callText, plain}
+use Rattle.plans.specs.Plain.{functionName, functionsText, endText, decimal, octetsText, bitsText, damageText, callText, plain}
 use Rattle.plans.specs.Inner.{texts, Writes, homeText, pieceText, piecesText, fronts, frontText, Front}
 
 -- no name is of no kind
@@ -151,7 +151,15 @@ pub answerer-bits-front : Front 18 37
 unfolding fronts bytes
 answerer-bits-front = record { order = lit≤ tt; within = lit< tt; line = refl; alone = refl }
 
--- what is typed before a bit, from where the code takes it
+pub blocks-lines : frontText 38 48 ≡ bytes "\nblocks   "
+unfolding fronts bytes
+blocks-lines = refl
+
+pub blocks-front : Front 38 48
+unfolding fronts bytes
+blocks-front = record { order = lit≤ tt; within = lit< tt; line = refl; alone = refl }
+
+-- what is typed before an entry, from where the code takes it
 module _ (front blank : ℕ) (is-front : Front front blank) where
   front-in : (new : Bool) → (when new front blank ≤ blank + 1) × (take (blank + 1 - when new front blank) (drop (when new front blank) fronts) ≡ when new (frontText front blank) [] ++ bytes " ")
   unfolding when
@@ -185,16 +193,16 @@ both-ends damaged true is-long =
 both-ends damaged false is-long =
     ap (λ (short : Bool). when short [] (bitsText (bytes "\ndamaged   caller") 0 0 (take 9000 damaged) ++ bitsText (bytes "\ndamaged   answerer") 0 0 (take 9000 (drop 9000 damaged)))) (sym (lt-ltb _ _ (leb-false 18000 (length damaged) is-long)))
 
-module _ (plan : Plan) (damaged : List ℕ) where
+module _ (plan : Plan) (blocks damaged : List ℕ) where
   abbrev bits : ℕ → ℕ → ℕ → List ℕ
   bits front blank start = bitsText (frontText front blank) 0 0 (take (times (leb 18000 (length damaged))) (drop start damaged))
 
-  pub plain-in-pieces : piecesText plan 0 18 ++ decimal (plan .te) ++ bits 0 17 0 ++ bits 18 37 (times (leb 18000 (length damaged))) ++ piecesText plan 18 1 ≡ plain plan damaged
+  pub plain-in-pieces : piecesText plan 0 18 ++ decimal (plan .te) ++ octetsText 0 blocks ++ bits 0 17 0 ++ bits 18 37 (times (leb 18000 (length damaged))) ++ piecesText plan 18 1 ≡ plain plan blocks damaged
   unfolding piecesText pieceText plain when
   plain-in-pieces =
-      let lines = endText (bytes "caller   ") plan 1 ++ endText (bytes "\nanswerer ") plan 2 ++ callText (plan .function) (plan .te) in
+      let lines = endText (bytes "caller   ") plan 1 ++ endText (bytes "\nanswerer ") plan 2 ++ callText (plan .function) (plan .te) ++ octetsText 0 blocks in
       let answerers = bits 18 37 (times (leb 18000 (length damaged))) in
-      ap (λ (front : List ℕ). front ++ bits 0 17 0 ++ answerers ++ (bytes "\n" ++ [])) (lines-in-pieces plan)
+      ap (λ (front : List ℕ). front ++ octetsText 0 blocks ++ bits 0 17 0 ++ answerers ++ (bytes "\n" ++ [])) (lines-in-pieces plan)
       ∙ ap (λ (text : List ℕ). text ++ (bytes "\n" ++ [])) (append-assoc lines (bits 0 17 0) answerers ∙ ap (λ (text : List ℕ). lines ++ text) (both-ends damaged (leb 18000 (length damaged)) refl))
       ∙ ap (λ (end : List ℕ). lines ++ damageText damaged ++ end) (append-nil (bytes "\n"))
 

@@ -1,5 +1,5 @@
--- The plain form of a call is read as that call, with the same bits damaged, and so it is without its line for Te where Te is the default: in both the
--- lines of the ends are read, then those that tell the call, then the damaged bits.
+-- The plain form of a call is read as that call, with the same blocks and the same bits damaged, and so it is without its line for Te where Te is the
+-- default: in both the lines of the ends are read, then those that tell the call, then the blocks, then the damaged bits.
 -- Assumes nothing.
 use Prim.Native.Nat.{ℕ, zero, suc, _<_, _+_}
 use native.Mathlib.Omega.{arith}
@@ -19,17 +19,19 @@ use Rattle.plans.specs.declared.Plan.{Plan}
 use Rattle.plans.specs.declared.Answer.{Answer}
 use Rattle.plans.specs.declared.Reading.{Reading}
 use Rattle.plans.specs.Text.{wordLength}
-use Rattle.plans.specs.Reading.{beginning, done, planned, home, place, setAt, recordOf, noPlan, fresh, isSaid, finishLine, withDefault, missing, answer, finished, readText, bitPlace, marked}
-use Rattle.plans.specs.Plain.{functionName, endText, bitsText, damageText, callText, plain}
-use Rattle.plans.specs.Good.{Good, Marks, IsReadAs, PlainReadsBack, TeIsTheDefault}
-use Rattle.plans.proofs.Runs.{Stops, stops-joined, Run, nothing, fed, join, whole-read, whole-marked}
+use Rattle.plans.specs.Reading.{beginning, done, planned, home, place, setAt, recordOf, noPlan, fresh, isSaid, finishLine, withDefault, missing, answer, finished, readText, bitPlace, marked, blocksIn}
+use Rattle.plans.specs.Plain.{functionName, endText, octetsText, bitsText, damageText, callText, plain}
+use Rattle.plans.specs.Good.{Good, Marks, Octets, IsReadAs, PlainReadsBack, TeIsTheDefault}
+use Rattle.plans.proofs.Runs.{Stops, stops-joined, Found, found, Run, nothing, fed, join, whole-read, whole-marked, whole-given}
 use Rattle.plans.proofs.Marking.{marking, zeros, zeros-at, first-half, other-half, halves-marked}
 use Rattle.plans.proofs.Words.{Line, lineOf, noLine, reading}
 use Rattle.plans.proofs.FunctionRuns.{withFunctions, on}
 use Rattle.plans.proofs.Accepted.{has-home}
 use Rattle.plans.proofs.EndRuns.{withEnd, end-run}
 use Rattle.plans.proofs.LineRuns.{caller-known, answerer-known, end-finished, caller-begins, answerer-begins, calling, calling-with-te}
-use Rattle.plans.proofs.DamageRuns.{Ends, bits-stop, bits-run}
+use Rattle.plans.proofs.ListRuns.{Ends}
+use Rattle.plans.proofs.BlockRuns.{octets-stop, octets-run}
+use Rattle.plans.proofs.DamageRuns.{bits-stop, bits-run}
 
 -- the entries of a list are the list
 abbrev entries : List ℕ → ℕ → ℕ → List ℕ
@@ -60,7 +62,7 @@ module _ (plan : Plan) (good : Good plan) where
   unfolding recordOf withFunctions when
   same-record = refl
 
-  module _ (d : List ℕ) where
+  module _ (d : Found) where
     caller-run : (first : ℕ) × Run fresh d (endText (bytes "caller   ") plan 1) (on 1 0 first callerSets) d
     unfolding isSaid when both
     caller-run = end-run plan 1 (good .caller) d (replicate 16 0) refl (λ k _. zeros-at 16 (place 1 k)) fresh (bytes "caller   ") (caller-begins noPlan (noLine 0) d refl)
@@ -99,7 +101,7 @@ module _ (plan : Plan) (good : Good plan) where
   given-stays = simp (ne-eqb (plan .te) 0 (λ e. omega (arith, e, between-true 500 5000 (plan .te) (good .te) .0)))
 
   -- the ends, and lines that tell the call
-  lines-run : (d lines : List ℕ) (r : Reading) → Stops lines
+  lines-run : (d : Found) (lines : List ℕ) (r : Reading) → Stops lines
       → ((behind : Reading) (before : Line) → finishLine behind ≡ reading (planned (plan .sets) 0 0) before beginning → Run behind d lines r d) → Run fresh d (bothEnds ++ lines) r d
   unfolding recordOf
   lines-run d lines r stops run =
@@ -110,11 +112,11 @@ module _ (plan : Plan) (good : Good plan) where
   called-low : plan .function < 7
   called-low = omega (arith, good .function .1)
 
-  head-run : (d : List ℕ) → Run fresh d (bothEnds ++ (bytes "\ncall     " ++ functionName (plan .function))) (reading (told 0) (noLine 0) done) d
+  head-run : (d : Found) → Run fresh d (bothEnds ++ (bytes "\ncall     " ++ functionName (plan .function))) (reading (told 0) (noLine 0) done) d
   unfolding bytes wordLength when either
   head-run d = lines-run d (bytes "\ncall     " ++ functionName (plan .function)) (reading (told 0) (noLine 0) done) refl (calling plan (good .called) d (good .function .0) called-low)
 
-  head-with-te-run : (d : List ℕ) → Run fresh d (bothEnds ++ callText (plan .function) (plan .te)) (reading plan (noLine 0) done) d
+  head-with-te-run : (d : Found) → Run fresh d (bothEnds ++ callText (plan .function) (plan .te)) (reading plan (noLine 0) done) d
   unfolding bytes wordLength when either
   head-with-te-run d =
       lines-run d (callText (plan .function) (plan .te)) (reading plan (noLine 0) done) refl
@@ -129,7 +131,7 @@ answerer-place : (time : ℕ) → bitPlace 2 time ≡ 9000 + time
 unfolding when
 answerer-place time = refl
 
-module _ (plan : Plan) (damaged d : List ℕ) (marks : Marks damaged) where
+module _ (plan : Plan) (damaged : List ℕ) (d : Found) (marks : Marks damaged) where
   abbrev first : List ℕ
   first = take 9000 damaged
 
@@ -149,48 +151,60 @@ module _ (plan : Plan) (damaged d : List ℕ) (marks : Marks damaged) where
   unfolding damageText when
   damage-there = simp (le-ltb (length damaged) 18000 (omega (arith, marks .both-ends)))
 
-  two-runs : (r : Reading) → Ends plan r → (r′ : Reading) × Ends plan r′ × Run r d twoTexts r′ (marking (marking d 0 first) 9000 second)
+  two-runs : (r : Reading) → Ends plan r → (r′ : Reading) × Ends plan r′ × Run r d twoTexts r′ (found (marking (marking (d .damaged) 0 first) 9000 second) (d .octets))
   unfolding bytes
   two-runs r ends =
       let of-first = bits-run plan 1 (bytes "caller") caller-known 0 caller-place first 0 0 d r (ends, λ e. clash e) (omega (arith, first-half 9000 damaged (marks .both-ends))) in
       let of-second =
-      bits-run plan 2 (bytes "answerer") answerer-known 9000 answerer-place second 0 0 (marking d 0 first) (of-first .0) (of-first .1, λ e. clash e)
+      bits-run plan 2 (bytes "answerer") answerer-known 9000 answerer-place second 0 0 (found (marking (d .damaged) 0 first) (d .octets)) (of-first .0) (of-first .1, λ e. clash e)
       (omega (arith, other-half 9000 damaged (marks .both-ends))) in
       (of-second .0, of-second .1, join (of-first .2) (bits-stop plan 2 (bytes "answerer") answerer-known 9000 answerer-place second 0 0) (of-second .2))
 
--- a whole text: the ends, the lines that tell the call, and the damaged bits
-module _ (plan : Plan) (damaged : List ℕ) (good : Good plan) (marks : Marks damaged) (lines : List ℕ) (te : ℕ)
-    (head : (d : List ℕ) → Run fresh d (bothEnds plan good ++ lines) (reading (told plan good te) (noLine 0) done) d) (as-meant : withDefault (told plan good te) ≡ plan)
+-- a whole text: the ends, the lines that tell the call, the blocks, and the damaged bits
+module _ (plan : Plan) (blocks damaged : List ℕ) (good : Good plan) (are-octets : Octets blocks) (marks : Marks damaged) (lines : List ℕ) (te : ℕ)
+    (head : (d : Found) → Run fresh d (bothEnds plan good ++ lines) (reading (told plan good te) (noLine 0) done) d) (as-meant : withDefault (told plan good te) ≡ plan)
   where
     abbrev text : List ℕ
-    text = bothEnds plan good ++ lines ++ damageText damaged ++ bytes "\n"
+    text = bothEnds plan good ++ lines ++ octetsText 0 blocks ++ damageText damaged ++ bytes "\n"
 
-    whole-run : (d : List ℕ) → (before : Line) × Run fresh d text (reading (told plan good te) before beginning) (marking (marking d 0 (take 9000 damaged)) 9000 (take 9000 (drop 9000 damaged)))
+    abbrev after : List ℕ → Found
+    after d = found (marking (marking d 0 (take 9000 damaged)) 9000 (take 9000 (drop 9000 damaged))) blocks
+
+    whole-run : (d : List ℕ) → (before : Line) × Run fresh (found d []) text (reading (told plan good te) before beginning) (after d)
     unfolding bytes wordLength finishLine when either
     whole-run d =
-        let after = marking (marking d 0 (take 9000 damaged)) 9000 (take 9000 (drop 9000 damaged)) in
-        let bits = two-runs (told plan good te) damaged d marks (reading (told plan good te) (noLine 0) done) (noLine 0, refl) in
-        let run = join (join (head d) (texts-stop (told plan good te) damaged d marks) (bits .2)) refl (fed (bits .1 .1) refl (nothing (reading (told plan good te) (bits .1 .0) beginning) after)) in
-        (bits .1 .0, rw (damage-there (told plan good te) damaged d marks) run)
+        let call = told plan good te in
+        let octets = octets-run call blocks 0 (found d []) (reading call (noLine 0) done) ((noLine 0, refl), λ e. clash e) are-octets in
+        let bits = two-runs call damaged (found d blocks) marks (octets .0) (octets .1) in
+        let lists = join (join (head (found d [])) (octets-stop call blocks 0) (octets .2)) (texts-stop call damaged (found d blocks) marks) (bits .2) in
+        let run = join lists refl (fed (bits .1 .1) refl (nothing (reading call (bits .1 .0) beginning) (after d))) in
+        (bits .1 .0, rw (damage-there call damaged (found d blocks) marks) run)
 
     read-back : readText text ≡ answer plan 0 (length text)
     read-back =
         let all = whole-run [] in
         whole-read (all .1) 0 ∙ is-finished plan good te as-meant (all .0) (0 + length text) ∙ ap (answer plan 0) (omega arith)
 
+    right : readText text .what ≡ 0
+    right = ap (λ (a : Answer). a .what) read-back
+
+    blocks-back : blocksIn text ≡ blocks
+    unfolding blocksIn when
+    blocks-back = rw right (whole-given (whole-run [] .1))
+
     marked-back : marked text (zeros (9000 + 9000)) ≡ damaged
     unfolding marked when
-    marked-back =
-        let all = whole-run (zeros (9000 + 9000)) in
-        rw (ap (λ (a : Answer). a .what) read-back) (whole-marked (all .1) ∙ halves-marked 9000 damaged (marks .both-ends) (marks .bits))
+    marked-back = rw right (whole-marked (whole-run (zeros (9000 + 9000)) .1) ∙ halves-marked 9000 damaged (marks .both-ends) (marks .bits))
 
-    is-read-as : IsReadAs plan damaged text
-    is-read-as = (read-back, marked-back)
+    is-read-as : IsReadAs plan blocks damaged text
+    is-read-as = (read-back, blocks-back, marked-back)
 
 pub plain-reads-back : PlainReadsBack
 unfolding plain
-plain-reads-back plan damaged good marks = is-read-as plan damaged good marks (callText (plan .function) (plan .te)) (plan .te) (head-with-te-run plan good) (given-stays plan good)
+plain-reads-back plan blocks damaged good are-octets marks =
+    is-read-as plan blocks damaged good are-octets marks (callText (plan .function) (plan .te)) (plan .te) (head-with-te-run plan good) (given-stays plan good)
 
 pub te-is-the-default : TeIsTheDefault
 unfolding when
-te-is-the-default plan damaged good marks is-default = is-read-as plan damaged good marks (bytes "\ncall     " ++ functionName (plan .function)) 0 (head-run plan good) (ap (told plan good) (sym is-default))
+te-is-the-default plan blocks damaged good are-octets marks is-default =
+    is-read-as plan blocks damaged good are-octets marks (bytes "\ncall     " ++ functionName (plan .function)) 0 (head-run plan good) (ap (told plan good) (sym is-default))

@@ -14,8 +14,8 @@ use Rattle.laws.specs.Logic.{when, both, either}
 use Rattle.laws.specs.Tests.{every}
 use Rattle.laws.proofs.Logic.{both-true, either-false}
 use Rattle.plans.specs.declared.Reading.{Reading}
-use Rattle.plans.specs.Text.{blank, lineFeed, comment, endsWord, wordLength, word, number}
-use Rattle.plans.specs.Reading.{finishLine, readWord, between, inWord, scanAfter, readByte, finished, readFrom, atBits, bitPlace, markedBit, markedFrom}
+use Rattle.plans.specs.Text.{blank, lineFeed, comment, endsWord, wordLength, word, number, noOctet, octet}
+use Rattle.plans.specs.Reading.{finishLine, readWord, between, inWord, scanAfter, readByte, finished, readFrom, atBits, bitPlace, markedBit, markedFrom, atOctets, octetAt, oneOctet, octetsFrom}
 
 -- a text that begins with the end of a word, or is empty
 abbrev pub Stops : List ℕ → Type 0
@@ -29,31 +29,44 @@ pub holds : (t : Bool) → T t → t ≡ true
 holds true h = refl
 holds false h = absurd h
 
+-- what is found in a text beside the plan, up to a place: the damaged bits, and the octets of the blocks
+pub record Found : Type 0 where
+  pub damaged : List ℕ
+  pub octets : List ℕ
+
+abbrev pub found : List ℕ → List ℕ → Found
+found damaged octets = record { damaged = damaged; octets = octets }
+
 -- a text is read on from a place in it: so many bytes are behind
-pub record Goes (r : Reading) (scan : ℕ) (damaged text : List ℕ) (count : ℕ) (r′ : Reading) (scan′ : ℕ) (damaged′ rest : List ℕ) : Type 0 where
+pub record Goes (r : Reading) (scan : ℕ) (d : Found) (text : List ℕ) (count : ℕ) (r′ : Reading) (scan′ : ℕ) (d′ : Found) (rest : List ℕ) : Type 0 where
   pub reads : (at : ℕ) → readFrom r scan at text ≡ readFrom r′ scan′ (at + count) rest
-  pub marks : markedFrom r scan text damaged ≡ markedFrom r′ scan′ rest damaged′
+  pub marks : markedFrom r scan text (d .damaged) ≡ markedFrom r′ scan′ rest (d′ .damaged)
+  pub gives : d .octets ++ octetsFrom r scan text ≡ d′ .octets ++ octetsFrom r′ scan′ rest
 
 -- a piece of a text is read, whatever stands behind it that does not go on with its last word
-pub record Run (r : Reading) (d text : List ℕ) (r′ : Reading) (d′ : List ℕ) : Type 0 where
+pub record Run (r : Reading) (d : Found) (text : List ℕ) (r′ : Reading) (d′ : Found) : Type 0 where
   pub goes : (rest : List ℕ) → Stops rest → Goes r between d (text ++ rest) (length text) r′ between d′ rest
 
 go-on :
-    {r r′ r″ : Reading} {s s′ s″ : ℕ} {d d′ d″ text rest rest′ : List ℕ} (m n k : ℕ) → m + n ≡ k → Goes r s d text m r′ s′ d′ rest → Goes r′ s′ d′ rest n r″ s″ d″ rest′
+    {r r′ r″ : Reading} {s s′ s″ : ℕ} {d d′ d″ : Found} {text rest rest′ : List ℕ} (m n k : ℕ) → m + n ≡ k → Goes r s d text m r′ s′ d′ rest → Goes r′ s′ d′ rest n r″ s″ d″ rest′
     → Goes r s d text k r″ s″ d″ rest′
 go-on {r″} {s″} {rest′} m n k sum first second = record {
   reads = λ at. first .reads at ∙ second .reads (at + m) ∙ ap (λ (place : ℕ). readFrom r″ s″ place rest′) (omega (arith, sum));
   marks = first .marks ∙ second .marks;
+  gives = first .gives ∙ second .gives;
 }
 
 -- one byte
-module _ (r r′ : Reading) (s s′ b : ℕ) (rest d d′ : List ℕ) (is-read : readByte r s b rest ≡ r′) (is-scan : scanAfter s b ≡ s′) (is-right : r′ .what ≡ 0) (is-marked : markedBit r s b rest d ≡ d′) where
-  one-byte : Goes r s d (b ∷ rest) 1 r′ s′ d′ rest
-  unfolding readFrom markedFrom when
-  one-byte = record {
-    reads = λ at. simp (is-read, is-scan, is-right);
-    marks = simp (is-read, is-scan, is-marked);
-  }
+module _ (r r′ : Reading) (s s′ b : ℕ) (rest : List ℕ) (d d′ : Found) (is-read : readByte r s b rest ≡ r′) (is-scan : scanAfter s b ≡ s′) (is-right : r′ .what ≡ 0)
+    (is-marked : markedBit r s b rest (d .damaged) ≡ d′ .damaged) (is-given : d .octets ++ oneOctet (octetAt r s b rest) ≡ d′ .octets)
+  where
+    one-byte : Goes r s d (b ∷ rest) 1 r′ s′ d′ rest
+    unfolding readFrom markedFrom octetsFrom when
+    one-byte = record {
+      reads = λ at. simp (is-read, is-scan, is-right);
+      marks = simp (is-read, is-scan, is-marked);
+      gives = simp (is-read, is-scan) (sym (append-assoc (d .octets) (oneOctet (octetAt r s b rest)) (octetsFrom r′ s′ rest)) ∙ ap (λ (front : List ℕ). front ++ octetsFrom r′ s′ rest) is-given);
+    }
 
 -- where a text stops, it is the same whether a word stands before it or not
 stop-first : (b : ℕ) (rest : List ℕ) → Stops (b ∷ rest) → endsWord b ≡ true
@@ -69,21 +82,27 @@ unfolding wordLength when
 stops-joined [] b first second = second
 stops-joined (c ∷ a) b first second = rw (stop-first c a first)
 
-module _ (r : Reading) (d : List ℕ) where
+module _ (r : Reading) (d : Found) where
   same-reads : (rest : List ℕ) (at : ℕ) → Stops rest → readFrom r inWord at rest ≡ readFrom r between at rest
   unfolding readFrom readByte scanAfter when
   same-reads [] at stops = refl
   same-reads (b ∷ rest) at stops = simp (stop-first b rest stops)
 
-  same-marks : (rest : List ℕ) → Stops rest → markedFrom r inWord rest d ≡ markedFrom r between rest d
+  same-marks : (rest : List ℕ) → Stops rest → markedFrom r inWord rest (d .damaged) ≡ markedFrom r between rest (d .damaged)
   unfolding markedFrom readByte scanAfter when both
   same-marks [] stops = refl
   same-marks (b ∷ rest) stops = simp (stop-first b rest stops)
+
+  same-octets : (rest : List ℕ) → Stops rest → octetsFrom r inWord rest ≡ octetsFrom r between rest
+  unfolding octetsFrom readByte scanAfter when both
+  same-octets [] stops = refl
+  same-octets (b ∷ rest) stops = simp (stop-first b rest stops)
 
   same-scan : (rest : List ℕ) → Stops rest → Goes r inWord d rest 0 r between d rest
   same-scan rest stops = record {
     reads = λ at. same-reads rest at stops ∙ ap (λ (place : ℕ). readFrom r between place rest) (omega arith);
     marks = same-marks rest stops;
+    gives = ap (λ (more : List ℕ). d .octets ++ more) (same-octets rest stops);
   }
 
 -- a byte of a word is no blank, no line feed and begins no comment
@@ -99,14 +118,14 @@ in-word b h =
     record { feed = second .0; hash = second .1; gap = first .0 }
 
 -- a word goes on
-module _ (r : Reading) (is-right : r .what ≡ 0) (d : List ℕ) where
+module _ (r : Reading) (is-right : r .what ≡ 0) (d : Found) where
   within-byte : (b : ℕ) (rest : List ℕ) → InWord b → Goes r inWord d (b ∷ rest) 1 r inWord d rest
   unfolding readByte scanAfter when both either
-  within-byte b rest w = one-byte r r inWord inWord b rest d d (simp (w .feed, w .hash, w .gap)) (simp (w .feed, w .hash, w .gap)) is-right (simp (w .feed, w .hash, w .gap))
+  within-byte b rest w = one-byte r r inWord inWord b rest d d (simp (w .feed, w .hash, w .gap)) (simp (w .feed, w .hash, w .gap)) is-right (simp (w .feed, w .hash, w .gap)) (simp (w .feed, w .hash, w .gap, append-nil))
 
   within : (w rest : List ℕ) → spelled w ≡ true → Goes r inWord d (w ++ rest) (length w) r inWord d rest
   unfolding every
-  within [] rest h = record { reads = λ at. ap (λ (place : ℕ). readFrom r inWord place rest) (omega arith); marks = refl }
+  within [] rest h = record { reads = λ at. ap (λ (place : ℕ). readFrom r inWord place rest) (omega arith); marks = refl; gives = refl }
   within (b ∷ w) rest h =
       let here = both-true (not (endsWord b)) (spelled w) h in
       go-on 1 (length w) (suc (length w)) (omega arith) (within-byte b (w ++ rest) (in-word b (here .0))) (within w rest (here .1))
@@ -123,16 +142,17 @@ word-front : (w rest : List ℕ) → spelled w ≡ true → Stops rest → word 
 word-front w rest h stops = ap (λ (n : ℕ). take n (w ++ rest)) (word-length w rest h stops) ∙ take-at w rest (length w) refl
 
 -- a piece of nothing
-pub nothing : (r : Reading) (d : List ℕ) → Run r d [] r d
-nothing r d = record { goes = λ rest stops. record { reads = λ at. ap (λ (place : ℕ). readFrom r between place rest) (omega arith); marks = refl } }
+pub nothing : (r : Reading) (d : Found) → Run r d [] r d
+nothing r d = record { goes = λ rest stops. record { reads = λ at. ap (λ (place : ℕ). readFrom r between place rest) (omega arith); marks = refl; gives = refl } }
 
 -- a word
 pub word-run :
-    (r r′ : Reading) (d d′ w : List ℕ) → 0 < length w → spelled w ≡ true → readWord r w ≡ r′ → r′ .what ≡ 0
-    → when (atBits r) (set d (bitPlace (r .end) (number w)) 1) d ≡ d′ → Run r d w r′ d′
+    (r r′ : Reading) (d d′ : Found) (w : List ℕ) → 0 < length w → spelled w ≡ true → readWord r w ≡ r′ → r′ .what ≡ 0
+    → when (atBits r) (set (d .damaged) (bitPlace (r .end) (number w)) 1) (d .damaged) ≡ d′ .damaged
+    → d .octets ++ oneOctet (when (atOctets r) (octet w) noOctet) ≡ d′ .octets → Run r d w r′ d′
 unfolding every readByte scanAfter when both either
-word-run r r′ d d′ [] full h is-read is-right is-marked = absurd (not-suc-le-zero full)
-word-run r r′ d d′ (b ∷ w) full h is-read is-right is-marked = record { goes = go }
+word-run r r′ d d′ [] full h is-read is-right is-marked is-given = absurd (not-suc-le-zero full)
+word-run r r′ d d′ (b ∷ w) full h is-read is-right is-marked is-given = record { goes = go }
   where
     go : (rest : List ℕ) → Stops rest → Goes r between d (b ∷ w ++ rest) (suc (length w)) r′ between d′ rest
     go rest stops =
@@ -140,41 +160,41 @@ word-run r r′ d d′ (b ∷ w) full h is-read is-right is-marked = record { go
         let i = in-word b (here .0) in
         let front = word-front (b ∷ w) rest h stops in
         go-on 1 (length w + 0) (suc (length w)) (omega arith)
-        (one-byte r r′ between inWord b (w ++ rest) d d′ (simp (i .feed, i .hash, i .gap, front, is-read)) (simp (i .feed, i .hash, i .gap)) is-right (simp (i .feed, i .hash, i .gap, front, is-marked)))
+        (one-byte r r′ between inWord b (w ++ rest) d d′ (simp (i .feed, i .hash, i .gap, front, is-read)) (simp (i .feed, i .hash, i .gap)) is-right (simp (i .feed, i .hash, i .gap, front, is-marked)) (simp (i .feed, i .hash, i .gap, front) is-given))
         (go-on (length w) 0 (length w + 0) refl (within r′ is-right d′ w rest (here .1)) (same-scan r′ d′ rest stops))
 
 -- a blank before a piece
-behind : {r r′ : Reading} {d d′ text : List ℕ} (b : ℕ) → blank b ≡ true → eqb b lineFeed ≡ false → eqb b comment ≡ false → r .what ≡ 0 → Run r d text r′ d′ → Run r d (b ∷ text) r′ d′
+behind : {r r′ : Reading} {d d′ : Found} {text : List ℕ} (b : ℕ) → blank b ≡ true → eqb b lineFeed ≡ false → eqb b comment ≡ false → r .what ≡ 0 → Run r d text r′ d′ → Run r d (b ∷ text) r′ d′
 unfolding readByte scanAfter when both either
 behind {r} {r′} {d} {d′} {text} b gap feed hash is-right run = record {
   goes = λ rest stops.
       go-on 1 (length text) (suc (length text)) (omega arith)
-      (one-byte r r between between b (text ++ rest) d d (simp (gap, feed)) (simp (feed, hash, gap)) is-right (simp gap))
+      (one-byte r r between between b (text ++ rest) d d (simp (gap, feed)) (simp (feed, hash, gap)) is-right (simp gap) (simp (gap, append-nil)))
       (run .goes rest stops);
 }
 
 -- blanks, so many, and a comma
-pub spaced : {r r′ : Reading} {d d′ text : List ℕ} (n : ℕ) → r .what ≡ 0 → Run r d text r′ d′ → Run r d (replicate n 32 ++ text) r′ d′
+pub spaced : {r r′ : Reading} {d d′ : Found} {text : List ℕ} (n : ℕ) → r .what ≡ 0 → Run r d text r′ d′ → Run r d (replicate n 32 ++ text) r′ d′
 unfolding either
 spaced zero is-right run = run
 spaced (suc n) is-right run = behind 32 refl refl refl is-right (spaced n is-right run)
 
-pub comma : {r r′ : Reading} {d d′ text : List ℕ} → r .what ≡ 0 → Run r d text r′ d′ → Run r d (44 ∷ text) r′ d′
+pub comma : {r r′ : Reading} {d d′ : Found} {text : List ℕ} → r .what ≡ 0 → Run r d text r′ d′ → Run r d (44 ∷ text) r′ d′
 unfolding either
 comma is-right run = behind 44 refl refl refl is-right run
 
 -- a line feed before a piece
-pub fed : {r r′ r″ : Reading} {d d′ text : List ℕ} → finishLine r ≡ r′ → r′ .what ≡ 0 → Run r′ d text r″ d′ → Run r d (lineFeed ∷ text) r″ d′
+pub fed : {r r′ r″ : Reading} {d d′ : Found} {text : List ℕ} → finishLine r ≡ r′ → r′ .what ≡ 0 → Run r′ d text r″ d′ → Run r d (lineFeed ∷ text) r″ d′
 unfolding readByte scanAfter when both either
 fed {r} {r′} {r″} {d} {d′} {text} is-fed is-right run = record {
   goes = λ rest stops.
       go-on 1 (length text) (suc (length text)) (omega arith)
-      (one-byte r r′ between between lineFeed (text ++ rest) d d is-fed refl is-right refl)
+      (one-byte r r′ between between lineFeed (text ++ rest) d d is-fed refl is-right refl (append-nil (d .octets)))
       (run .goes rest stops);
 }
 
 -- two pieces, the second of which stops the first
-pub join : {r r′ r″ : Reading} {d d′ d″ a b : List ℕ} → Run r d a r′ d′ → Stops b → Run r′ d′ b r″ d″ → Run r d (a ++ b) r″ d″
+pub join : {r r′ r″ : Reading} {d d′ d″ : Found} {a b : List ℕ} → Run r d a r′ d′ → Stops b → Run r′ d′ b r″ d″ → Run r d (a ++ b) r″ d″
 join {r} {r′} {r″} {d} {d′} {d″} {a} {b} first stops second = record {
   goes = λ rest is-stopped.
       rw (append-assoc a b rest)
@@ -182,7 +202,7 @@ join {r} {r′} {r″} {d} {d′} {d″} {a} {b} first stops second = record {
 }
 
 -- a piece that is the whole text
-module _ {r r′ : Reading} {d text d′ : List ℕ} (run : Run r d text r′ d′) where
+module _ {r r′ : Reading} {d d′ : Found} {text : List ℕ} (run : Run r d text r′ d′) where
   whole : Goes r between d text (length text) r′ between d′ []
   unfolding wordLength
   whole = rw append-nil at (run .goes [] refl)
@@ -191,6 +211,10 @@ module _ {r r′ : Reading} {d text d′ : List ℕ} (run : Run r d text r′ d�
   unfolding readFrom
   whole-read at = whole .reads at
 
-  pub whole-marked : markedFrom r between text d ≡ d′
+  pub whole-marked : markedFrom r between text (d .damaged) ≡ d′ .damaged
   unfolding markedFrom
   whole-marked = whole .marks
+
+  pub whole-given : d .octets ++ octetsFrom r between text ≡ d′ .octets
+  unfolding octetsFrom
+  whole-given = whole .gives ∙ append-nil (d′ .octets)

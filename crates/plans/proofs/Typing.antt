@@ -1,4 +1,4 @@
--- Laws about the plain form as it is typed, one piece and one bit at a time.
+-- Laws about the plain form as it is typed, one piece, one octet and one bit at a time.
 -- Assumes nothing.
 use Prim.Native.Nat.{ℕ, suc, _<_, _≤_, _+_, _-_}
 use native.Mathlib.Numerals.{add-one}
@@ -11,10 +11,11 @@ use lib.Dec.{eqb}
 use lib.ListN.{length, getD, take, drop, length-drop, drop-of-length-le}
 use lib.Seq.{drop-cons, length-take-le, getD-take, getD-drop}
 use Rattle.laws.specs.Logic.{when}
-use Rattle.printing.specs.Page.{Page, typed}
+use Rattle.names.specs.Bytes.{bytes}
+use Rattle.printing.specs.Page.{Page, typed, hexOctet}
 use Rattle.printing.proofs.Pages.{typed-joined}
 use Rattle.plans.specs.declared.Plan.{Plan}
-use Rattle.plans.specs.Plain.{bitText, bitsText}
+use Rattle.plans.specs.Plain.{entryText, octetsText, bitText, bitsText}
 use Rattle.plans.specs.Inner.{pieceText, piecesText}
 
 module _ (p : Page) (plan : Plan) (i last : ℕ) where
@@ -29,6 +30,17 @@ module _ (p : Page) (plan : Plan) (i last : ℕ) where
   pieces-end over =
       let none-left : last - i ≡ 0 = omega (arith, over) in
       ap (λ (count : ℕ). typed p (piecesText plan i count)) none-left
+
+module _ (p : Page) (blocks : List ℕ) (i : ℕ) where
+  pub octet-on : i < length blocks → typed p (octetsText i (drop i blocks)) ≡ typed (typed p (entryText (bytes "\nblocks   ") i (hexOctet (getD blocks i 0)))) (octetsText (i + 1) (drop (i + 1) blocks))
+  unfolding octetsText
+  octet-on more =
+      let here = drop-cons blocks i 0 more ∙ ap (λ (next : ℕ). getD blocks i 0 ∷ drop next blocks) (sym (add-one i)) in
+      ap (λ (rest : List ℕ). typed p (octetsText i rest)) here ∙ typed-joined p (entryText (bytes "\nblocks   ") i (hexOctet (getD blocks i 0))) (octetsText (i + 1) (drop (i + 1) blocks))
+
+  pub octets-end : length blocks ≤ i → typed p (octetsText i (drop i blocks)) ≡ p
+  unfolding octetsText typed
+  octets-end over = ap (λ (rest : List ℕ). typed p (octetsText i rest)) (drop-of-length-le blocks over)
 
 -- so many bits from a place on are those of the list
 module _ (damaged : List ℕ) (start times i : ℕ) (all : start + times ≤ length damaged) where

@@ -6,17 +6,17 @@ use native.Mathlib.Numerals.{add-one}
 use native.Mathlib.Omega.{arith}
 use mathlib.Core.Path.{_≡_, refl, sym, ap, _∙_}
 use mathlib.Core.Bool.{Bool, true, false}
-use mathlib.Core.List.{List, [], _∷_}
+use mathlib.Core.List.{List, [], _∷_, _++_}
 use mathlib.Core.Logic.{_⊎_, inl, inr}
-use borrow.Author.Tests.{eq-eqb, ne-eqb}
+use borrow.Author.Tests.{eq-eqb, ne-eqb, lt-ltb, le-ltb}
 use lib.Dec.{ltb, eqb}
 use lib.ListN.{length, getD, set, drop, take, length-set, drop-of-length-le}
 use lib.Seq.{drop-cons}
 use Rattle.laws.specs.Logic.{when, either}
 use Rattle.laws.proofs.Logic.{either-way}
 use Rattle.plans.specs.declared.Reading.{Reading}
-use Rattle.plans.specs.Text.{blank, endsWord, wordLength, word, noNumber, withDigit, numberOn, number, lineFeed, comment, lineFeeds, wordAt}
-use Rattle.plans.specs.Reading.{readWord, finishLine, between, inWord, inComment, scanAfter, beginsWord, readByte, noPlan, answer, finished, readFrom, bitPlace, isBit, markedBit, markedFrom}
+use Rattle.plans.specs.Text.{blank, endsWord, wordLength, word, noNumber, withDigit, numberOn, number, lineFeed, comment, lineFeeds, wordAt, noOctet}
+use Rattle.plans.specs.Reading.{readWord, finishLine, between, inWord, inComment, scanAfter, beginsWord, readByte, noPlan, answer, finished, readFrom, isBit, markedBit, markedFrom, octetAt, oneOctet, octetsFrom}
 use Rattle.plans.specs.Inner.{nowhere, bitAt}
 
 -- nothing is written past the end
@@ -46,6 +46,15 @@ not-in-word feed mark true no-word = refl
 not-in-word true mark false no-word = refl
 not-in-word false true false no-word = refl
 not-in-word false false false no-word = absurd (no-word refl)
+
+-- an octet stands at a place, or none does
+pub one-octet : (n : ℕ) (rest : List ℕ) → n < noOctet → oneOctet n ++ rest ≡ n ∷ rest
+unfolding when
+one-octet n rest small = simp (lt-ltb n noOctet small)
+
+pub none-octet : (n : ℕ) (rest : List ℕ) → noOctet ≤ n → oneOctet n ++ rest ≡ rest
+unfolding when
+none-octet n rest large = simp (le-ltb n noOctet large)
 
 -- where the byte behind a byte stands, outside comments
 module _ (b : ℕ) where
@@ -124,13 +133,18 @@ module _ (text : List ℕ) (i : ℕ) where
         let one-more : at - i ≡ suc (at - (i + 1)) = omega (arith, before) in
         ap (λ (n : ℕ). lineFeeds (take n (drop i text))) one-more ∙ ap (λ (rest : List ℕ). lineFeeds (take (suc (at - (i + 1))) rest)) here
 
+    abbrev this : ℕ
+    this = getD text i 0
+
+    abbrev rest : List ℕ
+    rest = drop (i + 1) text
+
+    -- what a word is read as where it is an entry of a list
+    pub entry-here : (value : List ℕ → ℕ) (none : ℕ) (is-entry : Bool) → is-entry ≡ true → when is-entry (value (word (this ∷ rest))) none ≡ value (wordAt text i)
+    unfolding when
+    entry-here value none is-entry is = simp is (ap (λ (front : List ℕ). value (word front)) (sym here))
+
     module _ (r : Reading) (scan : ℕ) where
-      abbrev this : ℕ
-      this = getD text i 0
-
-      abbrev rest : List ℕ
-      rest = drop (i + 1) text
-
       pub byte-ends : this ≡ lineFeed → readByte r scan this rest ≡ finishLine r
       unfolding readByte when
       byte-ends ends = simp (eq-eqb this lineFeed ends)
@@ -148,14 +162,6 @@ module _ (text : List ℕ) (i : ℕ) where
       pub byte-passes : (this ≡ lineFeed → ⊥) → beginsWord scan this ≡ false → readByte r scan this rest ≡ r
       unfolding when
       byte-passes within passes = within-line within ∙ ap (λ (t : Bool). when t (readWord r (wordAt text i)) r) passes
-
-      pub bit-here : isBit r scan this ≡ true → bitAt r scan this rest ≡ bitPlace (r .end) (number (wordAt text i))
-      unfolding bitAt when
-      bit-here is-bit = simp is-bit (ap (λ (front : List ℕ). bitPlace (r .end) (number (word front))) (sym here))
-
-      pub no-bit : isBit r scan this ≡ false → bitAt r scan this rest ≡ nowhere
-      unfolding bitAt when
-      no-bit is-none = simp is-none
 
       module _ (next : Reading) (is-next : next ≡ readByte r scan this rest) where
         pub read-on : (after : ℕ) → after ≡ scanAfter scan this → next .what ≡ 0 → readFrom next after (i + 1) rest ≡ readFrom r scan i (drop i text)
@@ -175,6 +181,12 @@ module _ (text : List ℕ) (i : ℕ) where
             let is-marked : now ≡ markedBit r scan this rest damaged = is-now ∙ ap (λ (place : ℕ). set damaged place 1) is-at ∙ set-where (isBit r scan this) damaged _ fits in
             let is-read = ap (λ (x : Reading). markedFrom x (scanAfter scan this) rest (markedBit r scan this rest damaged)) is-next in
             (simp (is-after, is-marked) (is-read ∙ ap (λ (list : List ℕ). markedFrom r scan list damaged) (sym here)), ap length is-now ∙ length-set damaged at 1)
+
+        pub octets-on : (after n : ℕ) → after ≡ scanAfter scan this → n ≡ octetAt r scan this rest → octetsFrom r scan (drop i text) ≡ oneOctet n ++ octetsFrom next after rest
+        unfolding octetsFrom
+        octets-on after n is-after is-n =
+            let is-read = ap (λ (x : Reading). oneOctet (octetAt r scan this rest) ++ octetsFrom x (scanAfter scan this) rest) (sym is-next) in
+            ap (octetsFrom r scan) here ∙ is-read ∙ simp (is-after, is-n)
 
   module _ (over : length text ≤ i) where
     nothing : drop i text ≡ []
@@ -200,6 +212,10 @@ module _ (text : List ℕ) (i : ℕ) where
     pub marked-end : (r : Reading) (scan : ℕ) (damaged : List ℕ) → markedFrom r scan (drop i text) damaged ≡ damaged
     unfolding markedFrom
     marked-end r scan damaged = simp nothing
+
+    pub octets-end : (r : Reading) (scan : ℕ) → octetsFrom r scan (drop i text) ≡ []
+    unfolding octetsFrom
+    octets-end r scan = simp nothing
 
 -- no line feed stands in no text
 pub lines-none : (text : List ℕ) → lineFeeds (take 0 text) ≡ 0

@@ -3,7 +3,7 @@
 use Prim.Native.Nat.{ℕ, suc, _<_}
 use mathlib.Core.Path.{_≡_, refl, sym, ap₂, subst}
 use mathlib.Core.Bool.{Bool, true, false}
-use mathlib.Core.List.{List, _∷_}
+use mathlib.Core.List.{List, _∷_, append-nil}
 use lib.Dec.{ltb, eqb, T, eqb→eq, ltb→lt}
 use lib.ListN.{length, drop}
 use Rattle.laws.specs.Logic.{when, both, either}
@@ -15,9 +15,9 @@ use Rattle.names.specs.Bytes.{bytes}
 use Rattle.names.specs.Names.{Entry, names, named, namedBy, namesOf, function}
 use Rattle.plans.specs.declared.Plan.{Plan}
 use Rattle.plans.specs.declared.Reading.{Reading}
-use Rattle.plans.specs.Reading.{atBits, nameWord, readWord}
+use Rattle.plans.specs.Reading.{atBits, atOctets, nameWord, readWord}
 use Rattle.plans.specs.Plain.{functionName}
-use Rattle.plans.proofs.Runs.{spelled, holds, Run, word-run}
+use Rattle.plans.proofs.Runs.{spelled, holds, Found, Run, word-run}
 
 abbrev pub meaning : ℕ → ℕ → Meaning
 meaning kind number = record { kind = kind; number = number }
@@ -79,10 +79,10 @@ abbrev pub reading : Plan → Line → ℕ → Reading
 reading plan line context = record { plan = plan; end = line .end; function = line .function; first = line .first; context = context; what = 0 }
 
 -- a name is read
-module _ (r r′ : Reading) (d word : List ℕ) (kind number : ℕ) where
+module _ (r r′ : Reading) (d : Found) (word : List ℕ) (kind number : ℕ) where
   pub name-run :
-      Known word kind number → eqb (r .context) 6 ≡ false → atBits r ≡ false → nameWord r (meaning kind number) ≡ r′ → r′ .what ≡ 0
+      Known word kind number → eqb (r .context) 6 ≡ false → atBits r ≡ false → atOctets r ≡ false → nameWord r (meaning kind number) ≡ r′ → r′ .what ≡ 0
       → Run r d word r′ d
   unfolding readWord when
-  name-run is-known no-te no-bits is-read is-right =
-      word-run r r′ d d word (is-known .some) (is-known .whole) (simp (no-te, no-bits, is-known .meant) is-read) is-right (simp no-bits)
+  name-run is-known no-te no-bits no-octets is-read is-right =
+      word-run r r′ d d word (is-known .some) (is-known .whole) (simp (no-te, no-bits, no-octets, is-known .meant) is-read) is-right (simp no-bits) (simp (no-octets, append-nil))

@@ -13,8 +13,8 @@ use Rattle.names.specs.Names.{names, namedBy}
 use Rattle.records.specs.declared.Modes.{Modes}
 use Rattle.records.specs.declared.Record.{Record}
 use Rattle.records.specs.Record.{noModes, modesAt, anyBad, badRecord}
-use Rattle.plans.specs.Text.{wordLength, numberOn}
-use Rattle.plans.specs.Reading.{say, nameFunction, nameHome, nameMode, endWord, isSaid, firstWord, lacksCall, planning, functionWord, nameWord, readWord, recordOf, recordMistake, withHome, finishEnd, finishLine, scanAfter, readByte, noPlan, answer, missing, finished, readFrom, readText, markedFrom, marked}
+use Rattle.plans.specs.Text.{wordLength, numberOn, hexValue, octet}
+use Rattle.plans.specs.Reading.{say, nameFunction, nameHome, nameMode, endWord, isSaid, firstWord, lacksCall, planning, functionWord, nameWord, readWord, recordOf, recordMistake, withHome, finishEnd, finishLine, scanAfter, readByte, noPlan, answer, missing, finished, readFrom, readText, markedFrom, marked, octetsFrom, blocksIn}
 
 abbrev having : ℕ → ℕ → Modes
 having items pcm = record { available = 1; pcm = pcm; items = items }
@@ -35,7 +35,7 @@ dataAlone items lapm = record {
 
 abbrev everyName : List ℕ
 everyName =
-    bytes "caller H.324 V.34 V.32bis V.17 V.27ter V.26bis V.23-half-duplex PCM-analogue V.91 textphone V.34 V.34-half-duplex V.32bis V.29-half-duplex V.27ter V.23 V.23-half-duplex PCM-digital V.91 videotex V.34 V.22bis V.17 V.29-half-duplex V.27ter V.21 PCM-analogue PCM-digital V.91 fax-sent V.34 V.26ter V.26bis V.23 V.23-half-duplex V.21 PCM-analogue PCM-digital V.91 fax-received V.34 data V.32 V.22 home fax-received wants access cellular\nanswerer data cellular digital\ncall fax-sent\nTe 500\ndamaged caller 0 2"
+    bytes "caller H.324 V.34 V.32bis V.17 V.27ter V.26bis V.23-half-duplex PCM-analogue V.91 textphone V.34 V.34-half-duplex V.32bis V.29-half-duplex V.27ter V.23 V.23-half-duplex PCM-digital V.91 videotex V.34 V.22bis V.17 V.29-half-duplex V.27ter V.21 PCM-analogue PCM-digital V.91 fax-sent V.34 V.26ter V.26bis V.23 V.23-half-duplex V.21 PCM-analogue PCM-digital V.91 fax-received V.34 data V.32 V.22 home fax-received wants access cellular\nanswerer data cellular digital\ncall fax-sent\nTe 500\nblocks B5\ndamaged caller 0 2"
 
 pub first-call-is-read :
     (recordOf (readText firstCall .plan) 1 ≡ dataAlone 0x101A 1) × (recordOf (readText firstCall .plan) 2 ≡ dataAlone 0x0118 0)
@@ -65,10 +65,24 @@ noModesForData = record {
 
 pub every-name-is-read :
     (recordOf (readText everyName .plan) 1 ≡ severalFunctions) × (recordOf (readText everyName .plan) 2 ≡ noModesForData)
-    × (readText everyName .plan .function ≡ 4) × (readText everyName .plan .te ≡ 500) × (marked everyName (replicate 4 0) ≡ 1 ∷ 0 ∷ 1 ∷ 0 ∷ [])
-unfolding bytes names namedBy sameList when both either inSet modesAt anyBad badRecord wordLength numberOn say nameFunction nameHome nameMode endWord isSaid firstWord lacksCall planning functionWord nameWord readWord recordOf recordMistake withHome finishEnd finishLine scanAfter readByte missing finished readFrom markedFrom marked
-every-name-is-read = (refl, refl, refl, refl, refl)
+    × (readText everyName .plan .function ≡ 4) × (readText everyName .plan .te ≡ 500) × (blocksIn everyName ≡ 0xB5 ∷ [])
+    × (marked everyName (replicate 4 0) ≡ 1 ∷ 0 ∷ 1 ∷ 0 ∷ [])
+unfolding bytes names namedBy sameList when both either inSet modesAt anyBad badRecord wordLength numberOn say nameFunction nameHome nameMode endWord isSaid firstWord lacksCall planning functionWord nameWord readWord recordOf recordMistake withHome finishEnd finishLine scanAfter readByte missing finished readFrom markedFrom marked octet hexValue octetsFrom blocksIn
+every-name-is-read = (refl, refl, refl, refl, refl, refl)
+
+-- octets in upper and lower case, in two lines that stand apart
+abbrev someBlocks : List ℕ
+someBlocks = bytes "blocks 01 23 45 67 89 AB CD EF\ncaller data\nanswerer data\ncall data\nblocks aB cd,ef # a0"
+
+pub blocks-are-read : blocksIn someBlocks ≡ 0x01 ∷ 0x23 ∷ 0x45 ∷ 0x67 ∷ 0x89 ∷ 0xAB ∷ 0xCD ∷ 0xEF ∷ 0xAB ∷ 0xCD ∷ 0xEF ∷ []
+unfolding bytes names namedBy sameList when both either inSet modesAt anyBad badRecord wordLength numberOn say nameFunction nameHome nameMode endWord isSaid firstWord lacksCall planning functionWord nameWord readWord recordOf recordMistake withHome finishEnd finishLine scanAfter readByte missing finished readFrom octet hexValue octetsFrom blocksIn
+blocks-are-read = refl
 
 pub mistake-has-its-place : readText (bytes "caller data V.35") ≡ answer noPlan 2 12
-unfolding bytes names namedBy sameList when both either inSet modesAt anyBad badRecord wordLength numberOn say nameFunction nameHome nameMode endWord isSaid firstWord lacksCall planning functionWord nameWord readWord recordOf recordMistake withHome finishEnd finishLine scanAfter readByte missing finished readFrom markedFrom marked
+unfolding bytes names namedBy sameList when both either inSet modesAt anyBad badRecord wordLength numberOn say nameFunction nameHome nameMode endWord isSaid firstWord lacksCall planning functionWord nameWord readWord recordOf recordMistake withHome finishEnd finishLine scanAfter readByte missing finished readFrom
 mistake-has-its-place = refl
+
+-- a word that is no octet, and a line without one
+pub no-octet-has-its-place : (readText (bytes "blocks 4 G1") ≡ answer noPlan 20 7) × (readText (bytes "blocks 41 4G") ≡ answer noPlan 21 10) × (readText (bytes "blocks\n") ≡ answer noPlan 20 6)
+unfolding bytes names namedBy sameList when both either inSet modesAt anyBad badRecord wordLength numberOn say nameFunction nameHome nameMode endWord isSaid firstWord lacksCall planning functionWord nameWord readWord recordOf recordMistake withHome finishEnd finishLine scanAfter readByte missing finished readFrom octet hexValue
+no-octet-has-its-place = (refl, refl, refl)

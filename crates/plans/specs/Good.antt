@@ -4,15 +4,15 @@ use mathlib.Core.Path.{_≡_}
 use mathlib.Core.Bool.{true, false}
 use mathlib.Core.List.{List, _++_}
 use mathlib.Core.Logic.{_⊎_}
-use lib.Dec.{leb}
+use lib.Dec.{leb, ltb}
 use lib.ListN.{length, replicate}
 use Rattle.laws.specs.Tests.{every}
 use Rattle.names.specs.Bytes.{bytes}
 use Rattle.records.specs.Record.{badRecord}
 use Rattle.steps.specs.Session.{isTe}
 use Rattle.plans.specs.declared.Plan.{Plan}
-use Rattle.plans.specs.Reading.{home, setAt, recordOf, answer, readText, marked}
-use Rattle.plans.specs.Plain.{functionName, endText, damageText, plain}
+use Rattle.plans.specs.Reading.{home, setAt, recordOf, answer, readText, marked, blocksIn}
+use Rattle.plans.specs.Plain.{functionName, endText, octetsText, damageText, plain}
 
 -- an end whose record is accepted: sets of sixteen numbers; nothing is said of a function that it has not; the home function is one of six; it wants
 -- and is no more than there is
@@ -37,30 +37,44 @@ pub record Marks (damaged : List ℕ) : Type 0 where
   pub both-ends : length damaged ≡ 18000
   pub bits : every (λ (b : ℕ). leb b 1) damaged ≡ true
 
+-- numbers that are octets
+abbrev pub Octets : List ℕ → Type 0
+Octets list = every (λ (b : ℕ). ltb b 256) list ≡ true
+
 -- a text that is no mistake is a call that can be made
 abbrev pub PlansAreGood : Type 0
 PlansAreGood = (text : List ℕ) → readText text .what ≡ 0 → Good (readText text .plan)
 
--- a text that is read, to its end, as this call with these bits damaged
-abbrev pub IsReadAs : Plan → List ℕ → List ℕ → Type 0
-IsReadAs plan damaged text = (readText text ≡ answer plan 0 (length text)) × (marked text (replicate 18000 0) ≡ damaged)
+-- what a text gives as blocks are octets
+abbrev pub BlocksAreOctets : Type 0
+BlocksAreOctets = (text : List ℕ) → Octets (blocksIn text)
 
--- the plain form of a call that can be made is read as that call, with the same bits damaged
+-- a text that is read, to its end, as this call with these blocks and these bits damaged
+abbrev pub IsReadAs : Plan → List ℕ → List ℕ → List ℕ → Type 0
+IsReadAs plan blocks damaged text = (readText text ≡ answer plan 0 (length text)) × (blocksIn text ≡ blocks) × (marked text (replicate 18000 0) ≡ damaged)
+
+-- the plain form of a call that can be made is read as that call, with the same blocks and the same bits damaged
 abbrev pub PlainReadsBack : Type 0
-PlainReadsBack = (plan : Plan) (damaged : List ℕ) → Good plan → Marks damaged → IsReadAs plan damaged (plain plan damaged)
+PlainReadsBack = (plan : Plan) (blocks damaged : List ℕ) → Good plan → Octets blocks → Marks damaged → IsReadAs plan blocks damaged (plain plan blocks damaged)
 
 -- the plain form without its line for Te
-abbrev pub withoutTe : Plan → List ℕ → List ℕ
-withoutTe plan damaged =
-    endText (bytes "caller   ") plan 1 ++ endText (bytes "\nanswerer ") plan 2 ++ (bytes "\ncall     " ++ functionName (plan .function)) ++ damageText damaged ++ bytes "\n"
+abbrev pub withoutTe : Plan → List ℕ → List ℕ → List ℕ
+withoutTe plan blocks damaged =
+    endText (bytes "caller   ") plan 1 ++ endText (bytes "\nanswerer ") plan 2 ++ (bytes "\ncall     " ++ functionName (plan .function)) ++ octetsText 0 blocks ++ damageText damaged ++ bytes "\n"
 
 -- document 02, Req 01: "Without a value, Te becomes 1,000.": a text that says all of a call but Te is read as that call with a Te of 1,000
 abbrev pub TeIsTheDefault : Type 0
-TeIsTheDefault = (plan : Plan) (damaged : List ℕ) → Good plan → Marks damaged → plan .te ≡ 1000 → IsReadAs plan damaged (withoutTe plan damaged)
+TeIsTheDefault =
+    (plan : Plan) (blocks damaged : List ℕ) → Good plan → Octets blocks → Marks damaged → plan .te ≡ 1000
+    → IsReadAs plan blocks damaged (withoutTe plan blocks damaged)
+
+-- what any text says, in plain form
+abbrev pub plainOf : List ℕ → List ℕ
+plainOf text = plain (readText text .plan) (blocksIn text) (marked text (replicate 18000 0))
 
 -- so what any text says is said again by the plain form of it
 abbrev pub ReadsAgain : Type 0
 ReadsAgain =
     (text : List ℕ) → readText text .what ≡ 0
-    → (readText (plain (readText text .plan) (marked text (replicate 18000 0))) .plan ≡ readText text .plan)
-    × (marked (plain (readText text .plan) (marked text (replicate 18000 0))) (replicate 18000 0) ≡ marked text (replicate 18000 0))
+    → (readText (plainOf text) .plan ≡ readText text .plan) × (blocksIn (plainOf text) ≡ blocksIn text)
+    × (marked (plainOf text) (replicate 18000 0) ≡ marked text (replicate 18000 0))

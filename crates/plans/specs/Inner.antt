@@ -63,17 +63,17 @@ unfoldable pub piecesText : Plan → ℕ → ℕ → List ℕ
 piecesText plan i zero = []
 piecesText plan i (suc count) = pieceText plan i ++ piecesText plan (i + 1) count
 
--- the fronts of lines for damaged bits, with a blank behind each
+-- the fronts of lines for damaged bits and for blocks, with a blank behind each
 unfoldable pub fronts : List ℕ
-fronts = bytes "\ndamaged   caller \ndamaged   answerer "
+fronts = bytes "\ndamaged   caller \ndamaged   answerer \nblocks    "
 
 -- the front that stands between two places
 abbrev pub frontText : ℕ → ℕ → List ℕ
 frontText front blank = take (blank - front) (drop front fronts)
 
--- a front, and behind it the blank that stands before each bit
+-- a front, and behind it the blank that stands before each entry
 pub record Front (front blank : ℕ) : Type 0 where
   pub order : front ≤ blank
-  pub within : blank < 38
+  pub within : blank < 49
   pub line : take (blank + 1 - front) (drop front fronts) ≡ frontText front blank ++ bytes " "
   pub alone : take (blank + 1 - blank) (drop blank fronts) ≡ bytes " "

@@ -5,6 +5,7 @@ use lib.Dec.{ltb, eqb}
 use lib.ListN.{length, take, drop}
 use Rattle.io.specs.Digits.{digits}
 use Rattle.laws.specs.Logic.{when}
+use Rattle.printing.specs.Page.{hexOctet}
 use Rattle.names.specs.Bytes.{bytes}
 use Rattle.names.specs.Names.{function, mode, quality, names, namesOf}
 use Rattle.plans.specs.declared.Plan.{Plan}
@@ -37,9 +38,18 @@ endText name plan end = name ++ functionsText plan end 1 6 ++ (bytes " home" ++ 
 abbrev pub decimal : ℕ → List ℕ
 decimal n = digits 10 (when (ltb n 10) 1 (when (ltb n 100) 2 (when (ltb n 1000) 3 (when (ltb n 10000) 4 5)))) n
 
--- a damaged bit, sixteen in a line
+-- an entry of a list behind so many others, sixteen in a line
+abbrev pub entryText : List ℕ → ℕ → List ℕ → List ℕ
+entryText front count entry = when (eqb (count % 16) 0) front [] ++ bytes " " ++ entry
+
+-- the octets of the blocks, behind so many others
+unfoldable pub octetsText : ℕ → List ℕ → List ℕ
+octetsText count [] = []
+octetsText count (b ∷ rest) = entryText (bytes "\nblocks   ") count (hexOctet b) ++ octetsText (count + 1) rest
+
+-- a damaged bit
 abbrev pub bitText : List ℕ → ℕ → ℕ → List ℕ
-bitText front count time = when (eqb (count % 16) 0) front [] ++ bytes " " ++ decimal time
+bitText front count time = entryText front count (decimal time)
 
 -- the damaged bits of an end from a time on, behind so many others
 unfoldable pub bitsText : List ℕ → ℕ → ℕ → List ℕ → List ℕ
@@ -56,6 +66,6 @@ damageText damaged =
 abbrev pub callText : ℕ → ℕ → List ℕ
 callText function te = bytes "\ncall     " ++ functionName function ++ bytes "\nTe        " ++ decimal te
 
-unfoldable pub plain : Plan → List ℕ → List ℕ
-plain plan damaged =
-    endText (bytes "caller   ") plan 1 ++ endText (bytes "\nanswerer ") plan 2 ++ callText (plan .function) (plan .te) ++ damageText damaged ++ bytes "\n"
+unfoldable pub plain : Plan → List ℕ → List ℕ → List ℕ
+plain plan blocks damaged =
+    endText (bytes "caller   ") plan 1 ++ endText (bytes "\nanswerer ") plan 2 ++ callText (plan .function) (plan .te) ++ octetsText 0 blocks ++ damageText damaged ++ bytes "\n"

@@ -1,7 +1,7 @@
 -- A call text, read into a plan or the first mistake in it.
 use Prim.Native.Nat.{ℕ, _+_, _*_, _/_, _%_, _^_}
 use mathlib.Core.Bool.{Bool, false}
-use mathlib.Core.List.{List, [], _∷_}
+use mathlib.Core.List.{List, [], _∷_, _++_}
 use lib.Dec.{ltb, eqb}
 use lib.ListN.{getD, set, replicate}
 use Rattle.laws.specs.Logic.{when, both, either}
@@ -15,7 +15,7 @@ use Rattle.steps.specs.Session.{isTe, defaultTe}
 use Rattle.plans.specs.declared.Plan.{Plan}
 use Rattle.plans.specs.declared.Answer.{Answer}
 use Rattle.plans.specs.declared.Reading.{Reading}
-use Rattle.plans.specs.Text.{blank, endsWord, lineFeed, comment, word, number}
+use Rattle.plans.specs.Text.{blank, endsWord, lineFeed, comment, word, number, noOctet, octet}
 
 -- what may come next: a line; in an end's line; behind `home`, `wants`, `call`, `Te`, `damaged`; the first bit, further bits; the line's end.
 -- What does not come is the mistake of that number
@@ -82,6 +82,13 @@ noCall = 18
 -- a function that the caller has not
 abbrev pub callNotHad : ℕ
 callNotHad = 19
+
+-- behind `blocks`, or the mistakes that they do not come: the first octet, further octets
+abbrev pub firstOctet : ℕ
+firstOctet = 20
+
+abbrev pub octets : ℕ
+octets = 21
 
 -- a plan of these sets: of each end eight, the caller's first; what it wants and what its line is, then each function's modes, with 0 in the set
 -- where the end has it, and last, as a number, its home function
@@ -156,12 +163,13 @@ endWord r m =
     (when (eqb (m .kind) part) (going r (m .number))
     (mistaken r inEnd)))))
 
--- a line with this name stands in the text already; those for damaged bits may stand again
+-- a line with this name stands in the text already; those for damaged bits and for blocks may stand again
 unfoldable pub isSaid : Plan → ℕ → Bool
 isSaid plan number =
     when (eqb number afterCall) (ltb 0 (plan .function))
     (when (eqb number afterTe) (ltb 0 (plan .te))
-    (when (eqb number afterDamaged) false (ltb 0 (setAt plan number home))))
+    (when (eqb number afterDamaged) false
+    (when (eqb number firstOctet) false (ltb 0 (setAt plan number home)))))
 
 abbrev pub beginNamed : Reading → ℕ → ℕ → ℕ → Reading
 beginNamed r name end context = when (isSaid (r .plan) name) (mistaken r twice) (beginLine r end context)
@@ -211,18 +219,33 @@ nameWord r m =
 abbrev pub teWord : Reading → ℕ → Reading
 teWord r te = when (isTe te) (planning r (r .plan .function) te done) (mistaken r afterTe)
 
+-- an entry of a list: none above the last that may be
+abbrev pub listed : Reading → ℕ → ℕ → ℕ → Reading
+listed r last n context = when (ltb last n) (mistaken r (r .context)) (going r context)
+
 -- a call is rehearsed for 9,000 bits, 30 seconds
 abbrev pub bitWord : Reading → ℕ → Reading
-bitWord r time = when (ltb 8999 time) (mistaken r (r .context)) (going r bits)
+bitWord r time = listed r 8999 time bits
+
+abbrev pub octetWord : Reading → ℕ → Reading
+octetWord r n = listed r 255 n octets
+
+-- the first of a list may come next, or one behind it
+abbrev pub oneOf : ℕ → ℕ → ℕ → Bool
+oneOf context first further = either (eqb context first) (eqb context further)
 
 abbrev pub atBits : Reading → Bool
-atBits r = either (eqb (r .context) firstBit) (eqb (r .context) bits)
+atBits r = oneOf (r .context) firstBit bits
+
+abbrev pub atOctets : Reading → Bool
+atOctets r = oneOf (r .context) firstOctet octets
 
 unfoldable pub readWord : Reading → List ℕ → Reading
 readWord r text =
     when (eqb (r .context) afterTe) (teWord r (number text))
     (when (atBits r) (bitWord r (number text))
-    (nameWord r (named text)))
+    (when (atOctets r) (octetWord r (octet text))
+    (nameWord r (named text))))
 
 -- what a set says of a function: 0 in it that it is named, 1 to 12 its items, from 13 on its PCM options
 abbrev pub modesOf : ℕ → Modes
@@ -258,7 +281,7 @@ finishEnd r =
 
 -- a line may end where this may come next
 abbrev pub mayEnd : ℕ → Bool
-mayEnd context = either (eqb context beginning) (either (eqb context bits) (eqb context done))
+mayEnd context = either (eqb context beginning) (either (eqb context bits) (either (eqb context octets) (eqb context done)))
 
 -- the end of a line
 unfoldable pub finishLine : Reading → Reading
@@ -343,3 +366,19 @@ markedFrom r scan (b ∷ rest) damaged = markedFrom (readByte r scan b rest) (sc
 -- the damaged bits of a text that is a plan
 unfoldable pub marked : List ℕ → List ℕ → List ℕ
 marked text damaged = when (eqb (readText text .what) 0) (markedFrom fresh between text damaged) damaged
+
+-- the octet of the blocks that stands at a byte, or none
+abbrev pub octetAt : Reading → ℕ → ℕ → List ℕ → ℕ
+octetAt r scan b rest = when (both (beginsWord scan b) (atOctets r)) (octet (word (b ∷ rest))) noOctet
+
+-- a list of one octet, and an empty list where there is none
+abbrev pub oneOctet : ℕ → List ℕ
+oneOctet n = when (ltb n noOctet) (n ∷ []) []
+
+unfoldable pub octetsFrom : Reading → ℕ → List ℕ → List ℕ
+octetsFrom r scan [] = []
+octetsFrom r scan (b ∷ rest) = oneOctet (octetAt r scan b rest) ++ octetsFrom (readByte r scan b rest) (scanAfter scan b) rest
+
+-- the octets of the caller's blocks, of a text that is a plan
+unfoldable pub blocksIn : List ℕ → List ℕ
+blocksIn text = when (eqb (readText text .what) 0) (octetsFrom fresh between text) []

@@ -2,8 +2,8 @@
 use Prim.Native.Nat.{ℕ, suc, _+_, _-_, _*_}
 use mathlib.Core.Bool.{Bool}
 use mathlib.Core.List.{List, [], _∷_}
-use lib.Dec.{ltb, eqb}
-use lib.ListN.{length, take, drop}
+use lib.Dec.{leb, ltb, eqb}
+use lib.ListN.{length, getD, take, drop}
 use Rattle.laws.specs.Logic.{when, either}
 
 -- a space, a tab, a carriage return, a comma
@@ -42,6 +42,24 @@ numberOn n (b ∷ rest) = numberOn (withDigit n b) rest
 
 abbrev pub number : List ℕ → ℕ
 number word = numberOn 0 word
+
+-- no octet: more than each is, and so is a byte that is no hexadecimal digit
+abbrev pub noOctet : ℕ
+noOctet = 256
+
+-- a hexadecimal digit, in upper or lower case
+unfoldable pub hexValue : ℕ → ℕ
+hexValue b =
+    when (ltb b 48) noOctet
+    (when (leb b 57) (b - 48)
+    (when (ltb b 65) noOctet
+    (when (leb b 70) (b - 55)
+    (when (ltb b 97) noOctet
+    (when (leb b 102) (b - 87) noOctet)))))
+
+-- an octet as two hexadecimal digits, and no octet for every other word
+unfoldable pub octet : List ℕ → ℕ
+octet word = when (eqb (length word) 2) (16 * hexValue (getD word 0 0) + hexValue (getD word 1 0)) noOctet
 
 -- how many line feeds stand in a text
 unfoldable pub lineFeeds : List ℕ → ℕ

@@ -4,6 +4,7 @@
 //     answerer  data V.32bis V.22bis V.26ter
 //     call      data
 //     Te        500
+//     blocks    05 B5 01 41 31 30
 //     damaged   caller 485 609
 //
 // Words stand apart by blanks, tabs and commas, in upper or lower case; # begins a comment. The lines may come in any order.
@@ -14,11 +15,12 @@ ghost use mathlib.Core.Path.{_≡_};
 ghost use Prim.Native.Nat.{_<_, _≤_, _+_, _-_, _%_};
 ghost use lib.Dec.{eqb};
 ghost use lib.ListN.{length, getD, set, take, drop};
-ghost use Rattle.laws.specs.Logic.{when, either};
+ghost use Rattle.laws.specs.Logic.{when, both};
+ghost use Rattle.laws.specs.Front.{front};
 ghost use Rattle.printing.specs.Page.{page, typed};
-ghost use Rattle.plans.specs.Text.{wordLength, number, linesBefore, wordAt};
-ghost use Rattle.plans.specs.Reading.{mistaken, going, place, setAt, store, added, say, firstOf, isSaid, beginNamed, lacksCall, planning, nameWord, teWord, bitWord, readWord, modesOf, recordOf, recordMistake, withHome, finishEnd, finishLine, between, scanAfter, beginsWord, readByte, noPlan, fresh, answer, finished, readText, bitPlace, marked, afterTe, firstBit, bits, callNotHad};
-ghost use Rattle.plans.specs.Plain.{functionText, bitsText, plain};
+ghost use Rattle.plans.specs.Text.{wordLength, number, hexValue, octet, linesBefore, wordAt};
+ghost use Rattle.plans.specs.Reading.{mistaken, going, place, setAt, store, added, say, firstOf, isSaid, beginNamed, lacksCall, planning, nameWord, teWord, bitWord, listed, oneOf, readWord, modesOf, recordOf, recordMistake, withHome, finishEnd, finishLine, between, scanAfter, beginsWord, readByte, noPlan, fresh, answer, finished, readText, bitPlace, marked, octetAt, blocksIn, afterTe, callNotHad};
+ghost use Rattle.plans.specs.Plain.{functionText, octetsText, bitsText, plain};
 ghost use Rattle.plans.specs.Inner.{Writes, homeText, pieceText, piecesText, Front, frontText, lacking, bitAt};
 ghost use Rattle.steps.specs.Session.{defaultTe};
 
@@ -69,6 +71,11 @@ pub const NO_CALL: u8 = 18;
 
 pub const CALL_NOT_HAD: u8 = 19;
 
+// Behind `blocks`: the first octet and further octets, as what may come next and as what is missing.
+pub const FIRST_OCTET: u8 = 20;
+
+pub const OCTETS: u8 = 21;
+
 // What a word may name where: the kind of what it names, times 256, and what may come next.
 const END_AT_BEGIN: u16 = 256 * names::END as u16 + BEGIN as u16;
 
@@ -109,6 +116,14 @@ const COMMENT: u8 = b'#';
 // What `number` answers for a word that is none: more than any number that may be written.
 const NO_NUMBER: u32 = 100000;
 
+// More than any octet: what is told of a byte that is no hexadecimal digit, and of a word that is no octet.
+const NO_OCTET: u32 = 256;
+
+// The characters of ASCII that stand ten before A and ten before a.
+const TEN_BEFORE_A: u8 = 55;
+
+const TEN_BEFORE_SMALL_A: u8 = 87;
+
 // No place: past the end of every slice.
 const NOWHERE: usize = 18446744073709551615;
 
@@ -118,8 +133,8 @@ const DEFAULT_TE: u16 = steps::DEFAULT_TE as u16;
 // How many bits both ends have in a rehearsal.
 const BITS_OF_BOTH: usize = 2 * BIT_TIMES;
 
-// How many damaged bits the plain form has in a line.
-const BITS_A_LINE: usize = 16;
+// How many damaged bits or octets the plain form has in a line.
+const ENTRIES_A_LINE: usize = 16;
 
 // A call: what is said of both ends, the function of the caller, and Te. Of each end there are eight sets, the caller's first: what it
 // wants and what its line is; each function's modes, with 0 in the set where the end has it; and last, as a number, its home function.
@@ -230,6 +245,41 @@ fn number(word: &[u8]) -> u32
     n
 }
 
+// The value of a hexadecimal digit, in upper or lower case.
+fn hex_value(b: u8) -> u32
+    ensures { λ r. ⌜ r ≡ hexValue b ⌝ }
+{
+    if b < b'0' {
+        return NO_OCTET;
+    }
+    if b <= b'9' {
+        return (b - b'0') as u32;
+    }
+    if b < b'A' {
+        return NO_OCTET;
+    }
+    if b <= b'F' {
+        return (b - TEN_BEFORE_A) as u32;
+    }
+    if b < b'a' {
+        return NO_OCTET;
+    }
+    if b <= b'f' {
+        return (b - TEN_BEFORE_SMALL_A) as u32;
+    }
+    NO_OCTET
+}
+
+// An octet, in two hexadecimal digits.
+fn octet(word: &[u8]) -> u32
+    ensures { λ r. ⌜ r ≡ octet (now (word .entry)) ⌝ }
+{
+    if word.len() == 2 {
+        return 16 * hex_value(word[0]) + hex_value(word[1]);
+    }
+    NO_OCTET
+}
+
 // Where one of the eight sets of an end stands.
 fn place(end: u8, k: u8) -> usize
     ensures { λ r. ⌜ (r ≡ place end k) × (r < 16) ⌝ }
@@ -305,14 +355,14 @@ fn first_of(first: u8, function: u8) -> u8
     first
 }
 
-// Whether a line with this name stands in the text already, which only those for damaged bits may.
+// Whether a line with this name stands in the text already, which only those for damaged bits and for blocks may.
 fn is_said(plan: Plan, number: u8) -> bool
     ensures { λ r. ⌜ r ≡ isSaid plan number ⌝ }
 {
     match number {
         AFTER_CALL => 0 < plan.function,
         AFTER_TE => 0 < plan.te,
-        AFTER_DAMAGED => false,
+        AFTER_DAMAGED | FIRST_OCTET => false,
         _ => 0 < set_at(plan, number, HOME),
     }
 }
@@ -397,6 +447,16 @@ fn name_word(r: Reading, kind: u8, n: u8) -> Reading
     }
 }
 
+// An entry of a list, which is not above the last that may be.
+fn listed(r: Reading, last: u32, n: u32, context: u8) -> Reading
+    ensures { λ next. ⌜ next ≡ listed r last n context ⌝ }
+{
+    if last < n {
+        return going(r, r.context, r.context);
+    }
+    going(r, context, r.what)
+}
+
 // A number where one is asked for: Te, or the time of a bit.
 fn number_word(r: Reading, n: u32) -> Reading
     ensures { λ next. ⌜ next ≡ when (eqb (r .context) afterTe) (teWord r n) (bitWord r n) ⌝ }
@@ -407,20 +467,7 @@ fn number_word(r: Reading, n: u32) -> Reading
         }
         return going(r, r.context, AFTER_TE);
     }
-    if 8999 < n {
-        return going(r, r.context, r.context);
-    }
-    going(r, BITS, r.what)
-}
-
-fn is_at_bits(context: u8) -> bool
-    ensures { λ r. ⌜ r ≡ either (eqb context firstBit) (eqb context bits) ⌝ }
-{
-    match context {
-        FIRST_BIT => true,
-        BITS => true,
-        _ => false,
-    }
+    listed(r, 8999, n, BITS)
 }
 
 fn read_word(r: Reading, word: &[u8]) -> Reading
@@ -430,6 +477,8 @@ fn read_word(r: Reading, word: &[u8]) -> Reading
     match context {
         AFTER_TE | FIRST_BIT => number_word(r, number(word)),
         BITS => number_word(r, number(word)),
+        FIRST_OCTET => listed(r, 255, octet(word), OCTETS),
+        OCTETS => listed(r, 255, octet(word), OCTETS),
         _ => {
             let m = names::named(word);
             name_word(r, m.kind, m.number)
@@ -526,7 +575,7 @@ fn finish_line(r: Reading) -> Reading
     match context {
         IN_END => finish_end(r),
         BEGIN | DONE => going(r, BEGIN, r.what),
-        BITS => going(r, BEGIN, r.what),
+        BITS | OCTETS => going(r, BEGIN, r.what),
         _ => going(r, context, context),
     }
 }
@@ -652,26 +701,44 @@ pub fn bit_place(end: u8, time: u32) -> usize
     BIT_TIMES + time as usize
 }
 
+// Whether an entry of a list begins at a byte, where the first of it may come, or one behind it.
+fn begins_entry(scan: u8, b: u8, context: u8, first: u8, further: u8) -> bool
+    ensures { λ r. ⌜ r ≡ both (beginsWord scan b) (oneOf context first further) ⌝ }
+{
+    if begins_word(scan, b) {
+        return context == first || context == further;
+    }
+    false
+}
+
 // The place of a damaged bit, where one stands at a byte of a text.
 fn bit_at(r: Reading, scan: u8, text: &[u8], i: usize) -> usize
     requires { ⌜ i < length (now text) ⌝ }
     ensures { λ at. ⌜ at ≡ bitAt r scan (getD (now (text .entry)) i 0) (drop (i + 1) (now (text .entry))) ⌝ }
 {
-    if is_at_bits(r.context) {
-        if begins_word(scan, text[i]) {
-            return bit_place(r.end, number(word_at(text, i)));
-        }
-        return NOWHERE;
+    if begins_entry(scan, text[i], r.context, FIRST_BIT, BITS) {
+        return bit_place(r.end, number(word_at(text, i)));
     }
     NOWHERE
 }
 
-// Marks a place, where there is one.
-fn mark_at(damaged: &mut [u8], at: usize)
-    ensures { λ u. ⌜ now (damaged .exit) ≡ set (now (damaged .entry)) at 1 ⌝ }
+// The octet of the blocks that stands at a byte of a text, where one does.
+fn octet_at(r: Reading, scan: u8, text: &[u8], i: usize) -> u32
+    requires { ⌜ i < length (now text) ⌝ }
+    ensures { λ n. ⌜ n ≡ octetAt r scan (getD (now (text .entry)) i 0) (drop (i + 1) (now (text .entry))) ⌝ }
 {
-    if at < damaged.len() {
-        damaged[at] = 1;
+    if begins_entry(scan, text[i], r.context, FIRST_OCTET, OCTETS) {
+        return octet(word_at(text, i));
+    }
+    NO_OCTET
+}
+
+// Writes a byte at a place, where there is one.
+fn write_at(out: &mut [u8], at: usize, b: u8)
+    ensures { λ u. ⌜ now (out .exit) ≡ set (now (out .entry)) at b ⌝ }
+{
+    if at < out.len() {
+        out[at] = b;
     }
 }
 
@@ -687,11 +754,37 @@ pub fn mark(text: &[u8], damaged: &mut [u8])
     let mut scan = BETWEEN;
     let mut i: usize = 0;
     while i < text.len() {
-        mark_at(damaged, bit_at(r, scan, text, i));
+        write_at(damaged, bit_at(r, scan, text, i), 1);
         r = read_byte(r, scan, text, i);
         scan = scan_after(scan, text[i]);
         i += 1;
     }
+}
+
+// Writes the octets of the caller's blocks, of a text that is a plan, as far as there is room, and answers how many the text gives.
+pub fn put_blocks(text: &[u8], out: &mut [u8]) -> usize
+    ensures count { λ r. ⌜ r ≡ length (blocksIn (now (text .entry))) ⌝ }
+    ensures octets { λ r. ⌜ now (out .exit) ≡ front (take (length (now (out .entry))) (blocksIn (now (text .entry)))) (now (out .entry)) ⌝ }
+{
+    let call = read(text);
+    if call.what != 0 {
+        return 0;
+    }
+    let mut r = begin();
+    let mut scan = BETWEEN;
+    let mut n: usize = 0;
+    let mut i: usize = 0;
+    while i < text.len() {
+        let b = octet_at(r, scan, text, i);
+        if b < NO_OCTET {
+            write_at(out, n, b as u8);
+            n += 1;
+        }
+        r = read_byte(r, scan, text, i);
+        scan = scan_after(scan, text[i]);
+        i += 1;
+    }
+    n
 }
 
 fn one_if(there: bool) -> usize
@@ -745,8 +838,9 @@ const NO_MORE_WANTED: usize = 67;
 // The set that holds the name 'home' alone.
 const HOME_NAMED: u16 = 8;
 
-// The fronts of lines for damaged bits, with the blank that stands before each bit; where the blanks stand, and the second front.
-const FRONTS: [u8; 38] = *b"\ndamaged   caller \ndamaged   answerer ";
+// The fronts of lines for damaged bits and for blocks, with the blank that stands before each entry; where the blanks stand, the other
+// fronts, and where they end.
+const FRONTS: [u8; 49] = *b"\ndamaged   caller \ndamaged   answerer \nblocks    ";
 
 const CALLER_BLANK: usize = 17;
 
@@ -754,7 +848,13 @@ const ANSWERER_LINES: usize = 18;
 
 const ANSWERER_BLANK: usize = 37;
 
-// How many pieces the plain form has beside Te and damaged bits, which stand before the last.
+const BLOCKS_LINES: usize = 38;
+
+const BLOCKS_BLANK: usize = 48;
+
+const FRONTS_END: usize = 49;
+
+// How many pieces the plain form has beside Te, blocks and damaged bits, which stand before the last.
 const LAST_PIECE: u8 = 18;
 
 const PIECES: u8 = 19;
@@ -896,11 +996,11 @@ fn put_pieces(out: &mut [u8], at: usize, plan: Plan, first: u8, last: u8) -> usi
     n
 }
 
-// Where the text before a bit begins: at the front of its line where those before it fill theirs, otherwise at the blank.
+// Where the text before an entry begins: at the front of its line where those before it fill theirs, otherwise at the blank.
 fn front_of(front: usize, blank: usize, count: usize) -> usize
     ensures { λ r. ⌜ r ≡ when (eqb (count % 16) 0) front blank ⌝ }
 {
-    if count % BITS_A_LINE == 0 {
+    if count % ENTRIES_A_LINE == 0 {
         return front;
     }
     blank
@@ -937,13 +1037,29 @@ fn put_bits(
     n
 }
 
+// The octets of the blocks; in each line sixteen, behind its front.
+fn put_octets(out: &mut [u8], at: usize, blocks: &[u8]) -> usize
+    ensures { λ r. ⌜ page (now (out .exit)) r ≡ typed (page (now (out .entry)) at) (octetsText 0 (now (blocks .entry))) ⌝ }
+{
+    let mut n = at;
+    let mut i: usize = 0;
+    while i < blocks.len() {
+        let from = front_of(BLOCKS_LINES, BLOCKS_BLANK, i);
+        n = printing::put_text(out, n, &FRONTS[from..FRONTS_END]);
+        n = printing::put_octet(out, n, blocks[i]);
+        i += 1;
+    }
+    n
+}
+
 // A plan in its plain form: a text that is read as this plan, with every default written out.
-pub fn put_plan(out: &mut [u8], at: usize, plan: Plan, damaged: &[u8]) -> usize
-    ensures { λ r. ⌜ page (now (out .exit)) r ≡ typed (page (now (out .entry)) at) (plain plan (now (damaged .entry))) ⌝ }
+pub fn put_plan(out: &mut [u8], at: usize, plan: Plan, blocks: &[u8], damaged: &[u8]) -> usize
+    ensures { λ r. ⌜ page (now (out .exit)) r ≡ typed (page (now (out .entry)) at) (plain plan (now (blocks .entry)) (now (damaged .entry))) ⌝ }
 {
     let times = BIT_TIMES * (BITS_OF_BOTH <= damaged.len()) as usize;
     let mut n = put_pieces(out, at, plan, 0, LAST_PIECE);
     n = printing::put_decimal(out, n, plan.te as u64);
+    n = put_octets(out, n, blocks);
     n = put_bits(out, n, 0, CALLER_BLANK, damaged, 0, times);
     n = put_bits(
         out,

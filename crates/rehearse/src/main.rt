@@ -31,8 +31,11 @@ const MOST_SHOWN: usize = 40;
 // How many bits both ends send.
 const LINE_BITS: usize = 2 * plans::BIT_TIMES;
 
+// How many octets of blocks are taken.
+const MOST_OCTETS: usize = 64;
+
 // How many lines say what a call text looks like.
-const HELP_LINES: u8 = 19;
+const HELP_LINES: u8 = 20;
 
 // Room, with a promise of its length: where a large array is made, its length takes long to prove.
 fn room() -> [u8; ROOM]
@@ -120,9 +123,9 @@ fn put_ladder(plan: Plan, first: Session, damaged: &[u8]) {
 }
 
 // The plan as it was understood.
-fn put_plan(plan: Plan, damaged: &[u8]) {
+fn put_plan(plan: Plan, blocks: &[u8], damaged: &[u8]) {
     let mut page = room();
-    let n = plans::put_plan(&mut page, 0, plan, damaged);
+    let n = plans::put_plan(&mut page, 0, plan, blocks, damaged);
     io::write_all(STDOUT_FILENO, line::part(&page, n));
 }
 
@@ -130,7 +133,10 @@ fn put_plan(plan: Plan, damaged: &[u8]) {
 fn call(text: &[u8], plan: Plan) {
     let mut damaged = undamaged();
     plans::mark(text, &mut damaged);
-    put_plan(plan, &damaged);
+    let mut octets = [0u8; MOST_OCTETS];
+    let count = plans::put_blocks(text, &mut octets);
+    let len = ladder::least(count, MOST_OCTETS);
+    put_plan(plan, line::part(&octets, len), &damaged);
     say(blank());
     let started = steps::start_caller(0, plan.te as u32);
     match started {

@@ -48,11 +48,11 @@ pub const BEHIND_WORD: u8 = 137;
 
 pub const MISTAKES: u8 = 138;
 
-pub const TOO_LONG: u8 = 158;
+pub const TOO_LONG: u8 = 160;
 
-pub const HEADING: u8 = 159;
+pub const HEADING: u8 = 161;
 
-pub const HELP: u8 = 160;
+pub const HELP: u8 = 162;
 
 // A text with nothing in it.
 pub fn blank() -> Text {
@@ -272,6 +272,8 @@ the text ends without a line 'caller'
 the text ends without a line 'answerer'
 the text ends without a line 'call'
 the caller has not the function of the call
+expected an octet of the blocks, two hex digits
+expected an octet of the blocks, two hex digits
 the text is longer than 131071 bytes
    ms  caller                                                                         answerer
 A call text says what both ends can do, and what the caller calls for:
@@ -281,10 +283,11 @@ A call text says what both ends can do, and what the caller calls for:
     call      data
 
 An end has functions, each with its modulations behind it. The first is its home function, or the one
-behind 'home'. Two lines may be there too: Te in milliseconds, and bits that arrive inverted, where
-bit n is sent n * 10 / 3 ms after the call began:
+behind 'home'. Further lines may be there too: Te in milliseconds; the octets of the caller's own blocks
+in hex; and bits that arrive inverted, where bit n is sent n * 10 / 3 ms after the call began:
 
     Te        500
+    blocks    05 B5 01 41 31 30
     damaged   caller 485 609
 
 Lines:\x01\x02

@@ -39,8 +39,8 @@ loop-holds c = (let args = c .before .before .before .before .before .before .ar
 bit-at-requires : tie.Need-bit-at-requires Inv-loop μ-loop
 bit-at-requires c κs = search needs
 
-mark-at-requires : tie.Need-mark-at-requires Inv-loop μ-loop
-mark-at-requires c κs = search needs
+write-at-requires : tie.Need-write-at-requires Inv-loop μ-loop
+write-at-requires c κs = search needs
 
 read-byte-requires : tie.Need-read-byte-requires Inv-loop μ-loop
 read-byte-requires c κs = search needs
@@ -71,7 +71,7 @@ loop-again c =
     let i = at-loop .loop .i in
     let more = c .before .before .before .before .before .before .before .before .loop-test .taken in
     let byte = c .before .before .read-byte in
-    let bit = c .before .before .before .before .before .mark-at in
+    let bit = c .before .before .before .before .before .write-at in
     let on = marked-on text i more (at-loop .loop .r) (at-loop .loop .scan) (byte .result) (byte .ensures) (c .scan-after .result) (c .before .before .before .before .before .before .bit-at .result) (at-loop .loop .damaged) (bit .last .0) (c .scan-after .ensures) (c .before .before .before .before .before .before .bit-at .ensures) (bit .ensures) (fits at-loop) in
     (on .0 ∙ at-loop .loop .inv .0, omega (arith, more), on .1 ∙ at-loop .loop .inv .2)
 
@@ -96,7 +96,7 @@ mark-spec =
     begin-requires
     loop-holds
     bit-at-requires
-    mark-at-requires
+    write-at-requires
     read-byte-requires
     shared-slice-read-scan-after
     scan-after-requires

@@ -1,7 +1,7 @@
--- `plans::number_word` meets its contract: Te is in range where a start takes it, and so it fits; the time of a bit is below the limit.
+-- `plans::number_word` meets its contract: Te is in range where a start takes it, and so it fits; any other number is an entry of a list.
 -- Assumes nothing.
 use borrow.Author.Needs.{needs}
-use borrow.Author.Tests.{eq-eqb, ne-eqb, lt-ltb, le-ltb}
+use borrow.Author.Tests.{eq-eqb, ne-eqb}
 use mathlib.Core.Path.{sym, _∙_}
 use mir.Facts.{fits-below}
 use Rattle.laws.specs.Logic.{when}
@@ -29,19 +29,12 @@ returns-2 : tie.Need-returns-2
 unfolding when
 returns-2 c = simp (c .going .ensures, eq-eqb _ _ (c .before .before .before .if1 .taken), sym (c .before .before .is-te .ensures) ∙ c .before .if2 .left)
 
-going-requires-2 : tie.Need-going-requires-2
-going-requires-2 c κs = search needs
+listed-requires : tie.Need-listed-requires
+listed-requires c κs = search needs
 
 returns-3 : tie.Need-returns-3
 unfolding when
-returns-3 c = simp (c .going2 .ensures, ne-eqb _ _ (c .before .before .if1 .left), lt-ltb _ _ (c .before .if3 .taken))
-
-going-requires-3 : tie.Need-going-requires-3
-going-requires-3 c κs = search needs
-
-returns-4 : tie.Need-returns-4
-unfolding when
-returns-4 c = simp (c .going3 .ensures, ne-eqb _ _ (c .before .before .if1 .left), le-ltb _ _ (c .before .if3 .left))
+returns-3 c = simp (c .listed .ensures, ne-eqb _ _ (c .before .if1 .left))
 
 pub number-word-spec : {M : Type 1} → statement M
 number-word-spec =
@@ -53,7 +46,5 @@ number-word-spec =
     returns
     going-requires
     returns-2
-    going-requires-2
-    returns-3
-    going-requires-3
-    returns-4)
+    listed-requires
+    returns-3)

@@ -27,7 +27,7 @@ abbrev μ-loop : tie.MeasureT-loop
 μ-loop out₀ at front blank damaged start times fronts end n₀ count₀ i₀ out n count i = times - i
 
 add-end : tie.Need-add-end Inv-loop μ-loop
-add-end c = fits-below {n = 39} tt (omega (arith, c .before .before .pre .0 .within))
+add-end c = fits-below {n = 50} tt (omega (arith, c .before .before .pre .0 .within))
 
 loop-holds : tie.Need-loop-holds Inv-loop μ-loop
 loop-holds c = (refl, lit≤ tt, refl)

@@ -1,0 +1,86 @@
+-- The octets of the blocks in a plain text, read one by one.
+-- Assumes nothing.
+use Prim.Native.Nat.{ℕ, _<_, _+_}
+use native.Mathlib.Omega.{arith}
+use mathlib.Core.Path.{_≡_, refl}
+use mathlib.Core.Bool.{Bool, true, false}
+use mathlib.Core.List.{List, [], _∷_, _++_, append-assoc, append-nil}
+use borrow.Author.Tests.{lt-ltb, le-ltb, ltb-true, eqb-true}
+use lib.Dec.{ltb, eqb, lit<}
+use lib.ListN.{replicate}
+use Rattle.laws.specs.Logic.{when, both, either}
+use Rattle.laws.specs.Tests.{every, allBelow}
+use Rattle.laws.proofs.Logic.{both-true}
+use Rattle.laws.proofs.Computed.{below}
+use Rattle.names.specs.Bytes.{bytes}
+use Rattle.printing.specs.Page.{hexOctet}
+use Rattle.plans.specs.declared.Plan.{Plan}
+use Rattle.plans.specs.declared.Reading.{Reading}
+use Rattle.plans.specs.Text.{wordLength, hexValue, octet}
+use Rattle.plans.specs.Reading.{firstOctet, octets, isSaid, readWord, atBits, atOctets, finishLine}
+use Rattle.plans.specs.Plain.{entryText, octetsText}
+use Rattle.plans.specs.Good.{Octets}
+use Rattle.plans.proofs.Runs.{Stops, stops-joined, spelled, holds, Found, found, Run, nothing, spaced, fed, join, word-run}
+use Rattle.plans.proofs.Words.{noLine, reading}
+use Rattle.plans.proofs.LineRuns.{blocks-known, line-begins}
+use Rattle.plans.proofs.ListRuns.{Ends, Lines, Ready, ready-on, entry-stops, entry-run}
+
+-- two digits are a word, and are read as the octet that they stand for
+abbrev isWritten : ℕ → Bool
+isWritten b = both (eqb (octet (hexOctet b)) b) (spelled (hexOctet b))
+
+all-written : (b : ℕ) → b < 256 → isWritten b ≡ true
+unfolding octet hexValue every allBelow when both either
+all-written b small = holds (isWritten b) (below isWritten 256 tt b small)
+
+octet-read : (b : ℕ) → b < 256 → octet (hexOctet b) ≡ b
+octet-read b small = eqb-true (octet (hexOctet b)) b (both-true (eqb (octet (hexOctet b)) b) (spelled (hexOctet b)) (all-written b small) .0)
+
+octet-spelled : (b : ℕ) → b < 256 → spelled (hexOctet b) ≡ true
+octet-spelled b small = both-true (eqb (octet (hexOctet b)) b) (spelled (hexOctet b)) (all-written b small) .1
+
+module _ (plan : Plan) where
+  abbrev within : ℕ → Reading
+  within context = reading plan (noLine 0) context
+
+  octet-lines : Lines plan (bytes "\nblocks   ") (within firstOctet) (within octets)
+  unfolding bytes wordLength isSaid finishLine when either
+  octet-lines = record {
+    stops = refl;
+    begins = λ r d ends. fed (ends .1) refl (join {a = bytes "blocks"} {b = replicate 3 32} (line-begins plan (ends .0) d (bytes "blocks") 20 blocks-known refl) refl (spaced 3 refl (nothing _ d)));
+    ends = (noLine 0, refl);
+  }
+
+  -- an octet
+  abbrev with : List ℕ → Found → Found
+  with list d = found (d .damaged) (d .octets ++ list)
+
+  octet-run :
+      (context b : ℕ) (d : Found) → eqb context 6 ≡ false → atBits (within context) ≡ false → atOctets (within context) ≡ true → b < 256
+      → Run (within context) d (32 ∷ hexOctet b) (within octets) (with (b ∷ []) d)
+  unfolding readWord when
+  octet-run context b d no-te no-bits at-octets small =
+      let is-read = octet-read b small in
+      spaced 1 refl
+      (word-run (within context) (within octets) d (with (b ∷ []) d) (hexOctet b) (lit< tt) (octet-spelled b small)
+      (simp (no-te, no-bits, at-octets, is-read, le-ltb 255 b (omega (arith, small))))
+      refl
+      (simp no-bits)
+      (simp (at-octets, is-read, lt-ltb b 256 small)))
+
+  pub octets-stop : (list : List ℕ) (count : ℕ) → Stops (octetsText count list)
+  unfolding octetsText wordLength
+  octets-stop [] count = refl
+  octets-stop (b ∷ list) count = stops-joined (entryText (bytes "\nblocks   ") count (hexOctet b)) (octetsText (count + 1) list) (entry-stops octet-lines count (hexOctet b)) (octets-stop list (count + 1))
+
+  pub octets-run :
+      (list : List ℕ) (count : ℕ) (d : Found) (r : Reading) → Ready plan (within octets) count r → Octets list
+      → (r′ : Reading) × Ends plan r′ × Run r d (octetsText count list) r′ (with list d)
+  unfolding octetsText every either
+  octets-run [] count d r ready are-octets = (r, ready .0, rw append-nil (nothing r d))
+  octets-run (b ∷ list) count d r ready are-octets =
+      let these = both-true (ltb b 256) (every (λ (n : ℕ). ltb n 256) list) are-octets in
+      let small = ltb-true b 256 (these .0) in
+      let first = entry-run octet-lines count (hexOctet b) d (with (b ∷ []) d) r ready (octet-run firstOctet b d refl refl refl small) (octet-run octets b d refl refl refl small) in
+      let next = octets-run list (count + 1) (with (b ∷ []) d) (within octets) (ready-on octet-lines (count + 1)) (these .1) in
+      (next .0, next .1, rw (append-assoc (d .octets) (b ∷ []) list) at (join first (octets-stop list (count + 1)) (next .2)))
