@@ -15,7 +15,7 @@ pieces=(1 7 2 31 1 64 10)
 heading='   ms  caller                                                                         answerer'
 
 # The names, as the texts list them.
-lines='caller answerer call Te damaged'
+lines='caller answerer call Te damaged blocks'
 functions='H.324 textphone videotex fax-sent fax-received data'
 modes='V.34 V.34-half-duplex V.32bis V.22bis V.17 V.29-half-duplex V.27ter V.26ter V.26bis V.23 V.23-half-duplex V.21'
 modes+=' PCM-analogue PCM-digital V.91'
@@ -47,6 +47,8 @@ mistakes=(
     "the text ends without a line 'answerer'"
     "the text ends without a line 'call'"
     'the caller has not the function of the call'
+    'expected an octet of the blocks, two hex digits'
+    'expected an octet of the blocks, two hex digits'
 )
 
 # text TEXT: the input of the next runs, with the escapes of printf %b.
@@ -109,7 +111,8 @@ sound() {
             for (i = 1; i <= n; i++) if (line[i] ~ /[ \t\r]$/) return wrong("blanks at the end of " line[i])
             if (line[1] !~ /^caller    / || line[2] !~ /^answerer  /) return wrong("no ends: " line[1])
             if (line[3] !~ /^call      / || line[4] !~ /^Te        [0-9]+$/) return wrong("no call: " line[3])
-            for (i = 5; line[i] ~ /^damaged   (caller|answerer)( [0-9]+)+$/; i++) ;
+            for (i = 5; line[i] ~ /^blocks   ( [0-9A-F][0-9A-F])+$/; i++) ;
+            for (; line[i] ~ /^damaged   (caller|answerer)( [0-9]+)+$/; i++) ;
             if (line[i] != "" || line[i + 1] != heading) return wrong("no heading: " line[i])
             for (i += 2; i < n; i++) {
                 row = line[i]
@@ -182,6 +185,15 @@ understood 'the first function is the home function' "answerer videotex, H.324\n
     'caller    textphone V.21, data, home data\nanswerer  H.324, videotex, home videotex\ncall      textphone\nTe        1000'
 understood 'sixteen damaged bits in a line' "damaged caller $(seq -s ' ' 17 -1 1)\n${whole}damaged answerer $(seq -s ' ' 16)" \
     "$(plan <"$calls/v32bis.timeline")\ndamaged   caller $(seq -s ' ' 16)\ndamaged   caller 17\ndamaged   answerer $(seq -s ' ' 16)"
+understood 'octets in upper and lower case, in lines that stand anywhere' \
+    "blocks 05 b5\t01,4F # 00\n$caller\nBlocks aB\n$answerer\ndamaged caller 7\ncall data\nBLOCKS 0a 0A" \
+    "$(plan <"$calls/v32bis.timeline")\nblocks    05 B5 01 4F AB 0A 0A\ndamaged   caller 7"
+every_octet=$(printf '%02X ' {0..63} {64..255})
+understood 'sixteen octets in a line' "${whole}blocks ${every_octet:0:192}" \
+    "$(plan <"$calls/v32bis.timeline")\nblocks    ${every_octet:0:47}\nblocks    ${every_octet:48:47}\nblocks    ${every_octet:96:47}\nblocks    ${every_octet:144:47}"
+for ((from = 0; from < 768; from += 48)); do
+    understood "octets from $((from / 3)) on" "${whole}blocks ${every_octet:from:47}" "$(plan <"$calls/v32bis.timeline")\nblocks    ${every_octet:from:47}"
+done
 
 tried=()
 refuses 'an unknown line' "$caller\ncalled data\n" "line 2, 'called'" 1
@@ -259,6 +271,21 @@ refuses 'no call, its word in a comment' "$caller\n$answerer\n# call data\n" '' 
 refuses 'a function that the caller has not' "$caller\n$answerer\n\ncall fax-sent\n" "line 4, 'fax-sent'" 19
 refuses 'a caller that has not the function' "call textphone\n$caller\n$answerer" 'line 2, at its end' 19
 refuses 'a last line that has not the function' "call textphone\n$answerer\n$caller" 'line 3, at its end' 19
+refuses 'blocks of an end' 'blocks caller 05' "line 1, 'caller'" 20
+refuses 'an octet of one digit' "$caller\nblocks 5" "line 2, '5'" 20
+refuses 'an octet of three digits' 'blocks 005' "line 1, '005'" 20
+refuses 'an octet with its base' 'blocks 0x05' "line 1, '0x05'" 20
+refuses 'G for a digit' 'blocks 0G' "line 1, '0G'" 20
+refuses 'g for a digit' 'blocks g0' "line 1, 'g0'" 20
+refuses 'a byte before 0' 'blocks 0/' "line 1, '0/'" 20
+refuses 'a byte behind 9' 'blocks :0' "line 1, ':0'" 20
+refuses 'a byte before A' 'blocks @A' "line 1, '@A'" 20
+refuses 'a byte before a' 'blocks a`' "line 1, 'a\`'" 20
+refuses 'blocks at the end of a line' "blocks\n05" 'line 1, at its end' 20
+refuses 'blocks at the end of the text' "${whole}blocks # 05" 'line 4, at its end' 20
+refuses 'a name behind octets' 'blocks 05 b5 data' "line 1, 'data'" 21
+refuses 'a number behind octets' "blocks 05\nblocks 05 500" "line 2, '500'" 21
+refuses 'a sign behind octets' 'blocks 05, -5' "line 1, '-5'" 21
 refuses 'the first of two wrong lines' "call x\nTe y\n" "line 1, 'x'" 5
 refuses 'the first of two wrong words' 'caller data V.90 LAPM' "line 1, 'V.90'" 2
 refuses 'a word, then what is wrong with the end' 'answerer data PCM-digital V.90' "line 1, 'V.90'" 2
@@ -266,8 +293,8 @@ refuses 'a home function, then PCM' 'caller data PCM-digital home H.324' 'line 1
 refuses 'PCM, then the function of the call' "call videotex\ncaller data PCM-digital\n" 'line 2, at its end' 15
 refuses 'a wrong line before what is missing' "$caller\nTe 400" "line 2, '400'" 6
 refuses 'the function of the call, then what is missing' "$caller\ncall H.324" "line 2, 'H.324'" 19
-if [ "${#tried[@]}" -ne 19 ]; then
-    printf 'mistakes that no text is tried for: %s of 19 are\n' "${#tried[@]}"
+if [ "${#tried[@]}" -ne 21 ]; then
+    printf 'mistakes that no text is tried for: %s of 21 are\n' "${#tried[@]}"
     differ=$((differ + 1))
 fi
 
@@ -321,6 +348,11 @@ random_call() {
             srand(seed); split(functions, function_of, " "); split(modes, mode_of, " "); called = 1 + below(6)
             print end("caller", called); print end("answerer", 1 + below(6)); print "call " function_of[called]
             if (below(2)) print "Te " 500 + below(4501)
+            for (i = below(4); i > 0; i--) {
+                printf "blocks"
+                for (j = below(20); j >= 0; j--) printf(below(2) ? " %02X" : " %02x", below(256))
+                print ""
+            }
             for (i = below(40); i > 0; i--) print "damaged " (below(2) ? "caller " : "answerer ") 600 + below(700)
         }'
 }
@@ -350,13 +382,13 @@ random() {
     }' "$@"
 }
 mapfile -t bytes < <(LC_ALL=C awk 'BEGIN { for (i = 1; i < 256; i++) if (i != 10) printf "%c\n", i }')
-read -ra words <<<"$lines $functions $modes $other_modes $parts $wanted $qualities $access 500 0 8999 9000 # ,"
+read -ra words <<<"$lines $functions $modes $other_modes $parts $wanted $qualities $access 500 0 8999 9000 05 b5 # ,"
 for ((n = 1; n <= 40; n++)); do
     random "$n" $((n * n * 31)) '' "${bytes[@]}" $'\n' >"$work/input"
     survives "random bytes, run $n"
     { printf 'caller data '; random "$n" "$n" ' ' "${words[@]}" $'\n' data V.34 home wants; } >"$work/input"
     survives "random words, run $n"
-    { printf '%b' "$whole"; random "$n" "$n" $'\n' 'damaged caller 610 681' 'damaged answerer 760' '# Te' ''; } >"$work/input"
+    { printf '%b' "$whole"; random "$n" "$n" $'\n' 'damaged caller 610 681' 'damaged answerer 760' 'blocks 05 b5' '# Te' ''; } >"$work/input"
     survives "random lines behind a call, run $n"
 done
 

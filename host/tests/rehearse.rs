@@ -106,6 +106,12 @@ impl Random {
         }
     }
 
+    /// Octets of blocks, or none.
+    fn blocks(&mut self) -> Vec<u8> {
+        let count = if self.one_in(2) { 0 } else { self.below(40) };
+        (0..count).map(|_| self.below(256) as u8).collect()
+    }
+
     /// A function, most often one that the caller has.
     fn function(&mut self, caller: &Record) -> u8 {
         match self.below(6) as u8 + 1 {
@@ -115,11 +121,13 @@ impl Random {
     }
 }
 
-/// What is planned: two ends, the function of the call, Te where it is given, the damaged bits of either end.
+/// What is planned: two ends, the function of the call, Te where it is given, the octets of the caller's blocks, the damaged bits of
+/// either end.
 struct Call {
     ends: [Record; 2],
     function: u8,
     te: Option<usize>,
+    blocks: Vec<u8>,
     damaged: [BTreeSet<usize>; 2],
 }
 
@@ -173,6 +181,9 @@ impl Call {
         let [caller, answerer] = self.ends.each_ref().map(plain_record);
         let (function, te) = (name(self.function), self.te());
         let mut plan = format!("caller    {caller}\nanswerer  {answerer}\ncall      {function}\nTe        {te}\n");
+        for line in self.blocks.chunks(16) {
+            plan += &format!("blocks    {}\n", text::show_octets(line));
+        }
         for (end, bits) in ENDS.iter().zip(&self.damaged) {
             let bits: Vec<String> = bits.iter().map(usize::to_string).collect();
             for line in bits.chunks(16) {
@@ -197,7 +208,14 @@ impl Call {
                 lines.push([&["damaged".to_string(), any_letters(random, end)], bits].concat());
             }
         }
+        let mut blocks = self.blocks.chunks(1 + random.below(20));
+        lines.extend(blocks.clone().map(|_| vec!["blocks".to_string()]));
         random.shuffle(&mut lines);
+        // The octets are joined in the order of the text.
+        for line in lines.iter_mut().filter(|line| line[0] == "blocks") {
+            let octets = blocks.next().expect("a line for each");
+            line.extend(octets.iter().map(|octet| any_letters(random, &format!("{octet:02X}"))));
+        }
         let mut text = String::new();
         let (mut wrong, mut caller_known, mut call_known) = (None, false, false);
         for line in lines {
@@ -517,7 +535,7 @@ fn a_rehearsed_call_ends_as_the_model_says() {
         let asked: u8 = function.parse().expect("a function is a byte");
         let ends = [caller, answerer];
         for function in BTreeSet::from([asked, 6]).into_iter().filter(|function| (1..=6).contains(function)) {
-            let call = Call { ends: ends.clone(), function, te: None, damaged: Default::default() };
+            let call = Call { ends: ends.clone(), function, te: None, blocks: Vec::new(), damaged: Default::default() };
             ends_as_the_model_says(&call, &call.plain(), call.wrong(), &mut counts);
         }
     }
@@ -533,7 +551,7 @@ fn a_call_in_any_words_ends_as_the_model_says() {
         let function = random.function(&ends[0]);
         // Behind a later Te the answerer does not wait for two copies of the longest CM.
         let te = random.one_in(2).then(|| 500 + random.below(2900));
-        let call = Call { ends, function, te, damaged: Default::default() };
+        let call = Call { ends, function, te, blocks: random.blocks(), damaged: Default::default() };
         let (said, wrong) = call.in_other_words(&mut random);
         ends_as_the_model_says(&call, &said, wrong, &mut counts);
     }
@@ -560,6 +578,7 @@ fn a_menu_that_damage_makes_is_answered_as_the_model_says() {
             ends: [own.clone(), own.clone()],
             function: own.home,
             te: Some(5000),
+            blocks: Vec::new(),
             damaged: [zeros, BTreeSet::new()],
         };
         let said = call.plain();
@@ -588,7 +607,7 @@ fn a_call_over_a_damaged_line_ends_in_a_known_way() {
         let function = random.function(&ends[0]);
         let latest = if random.one_in(8) { 5000 } else { 2000 };
         let te = random.one_in(2).then(|| 500 + random.below(latest - 499));
-        let mut call = Call { ends, function, te, damaged: Default::default() };
+        let mut call = Call { ends, function, te, blocks: random.blocks(), damaged: Default::default() };
         if call.wrong().is_some() {
             continue;
         }

@@ -64,7 +64,7 @@ names =
     entry "call" line 5 ∷
     entry "Te" line 6 ∷
     entry "damaged" line 7 ∷
-    entry "blocks" line 20 ∷
+    entry "blocks" line 8 ∷
     entry "H.324" function 1 ∷
     entry "textphone" function 2 ∷
     entry "videotex" function 3 ∷

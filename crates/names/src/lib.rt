@@ -57,7 +57,7 @@ fn table() -> [u8; TABLE]
  call             \x04\x02\x05
  Te               \x02\x02\x06
  damaged          \x07\x02\x07
- blocks           \x06\x02\x14
+ blocks           \x06\x02\x08
  H.324            \x05\x03\x01
  textphone        \x09\x03\x02
  videotex         \x08\x03\x03

@@ -47,7 +47,7 @@ module _ (plan : Plan) where
   unfolding bytes wordLength isSaid finishLine when either
   octet-lines = record {
     stops = refl;
-    begins = λ r d ends. fed (ends .1) refl (join {a = bytes "blocks"} {b = replicate 3 32} (line-begins plan (ends .0) d (bytes "blocks") 20 blocks-known refl) refl (spaced 3 refl (nothing _ d)));
+    begins = λ r d ends. fed (ends .1) refl (join {a = bytes "blocks"} {b = replicate 3 32} (line-begins plan (ends .0) d (bytes "blocks") 8 blocks-known refl) refl (spaced 3 refl (nothing _ d)));
     ends = (noLine 0, refl);
   }
 

@@ -14,7 +14,7 @@ use Rattle.names.specs.declared.Meaning.{Meaning}
 use Rattle.names.specs.Names.{end, line, function, mode, otherMode, part, wanted, quality, named}
 use Rattle.plans.specs.declared.Reading.{Reading}
 use Rattle.plans.specs.Text.{number, octet}
-use Rattle.plans.specs.Reading.{beginning, inEnd, afterHome, afterWants, afterCall, afterTe, afterDamaged, firstBit, bits, done, firstOctet, octets, mistaken, going, say, nameFunction, nameHome, nameMode, endWord, isSaid, beginNamed, firstWord, nameCall, functionWord, planning, nameWord, teWord, bitWord, octetWord, readWord, recordOf, recordMistake, withHome, finishEnd, finishLine, noPlan, answer, missing, withDefault, finished, modeFirst, twice, home, setAt, store, firstOf}
+use Rattle.plans.specs.Reading.{beginning, inEnd, afterHome, afterWants, afterCall, afterTe, afterDamaged, firstBit, bits, done, firstOctet, octets, mistaken, going, say, nameFunction, nameHome, nameMode, endWord, isSaid, beginNamed, behindName, firstWord, nameCall, functionWord, planning, nameWord, teWord, bitWord, octetWord, readWord, recordOf, recordMistake, withHome, finishEnd, finishLine, noPlan, answer, missing, withDefault, finished, modeFirst, twice, home, setAt, store, firstOf}
 use Rattle.plans.specs.Inner.{lacking}
 
 -- a word that names something: the kind of that decides too
@@ -63,9 +63,9 @@ module _ (r : Reading) (m : Meaning) (small : r .context < 256) where
   unfolding nameWord firstWord when
   end-at-begin is-case = let w = at beginning end (omega arith) is-case in simp (w .0, w .1)
 
-  pub line-at-begin : case ≡ 513 → nameWord r m ≡ beginNamed r n 0 n
+  pub line-at-begin : case ≡ 513 → (context : ℕ) → context ≡ behindName n → nameWord r m ≡ beginNamed r n 0 context
   unfolding nameWord firstWord when
-  line-at-begin is-case = let w = at beginning line (omega arith) is-case in simp (w .0, w .1)
+  line-at-begin is-case context is-context = let w = at beginning line (omega arith) is-case in simp (w .0, w .1, is-context)
 
   module _ (is-case : case ≡ 771) (set : ℕ) (is-set : set ≡ setAt (r .plan) (r .end) home) where
     home-named : nameWord r m ≡ nameHome r n

@@ -6,7 +6,7 @@ use mathlib.Core.Path.{_≡_, refl, sym, ap, _∙_}
 use mathlib.Core.Bool.{Bool, true, false}
 use mathlib.Core.List.{List}
 use borrow.Author.Tests.{eqb-true, lt-ltb, le-ltb}
-use lib.Dec.{ltb, eqb}
+use lib.Dec.{ltb, eqb, lit≤}
 use Rattle.laws.specs.Logic.{when, both, either}
 use Rattle.laws.proofs.Logic.{either-way, both-neither, clash}
 use Rattle.names.specs.declared.Meaning.{Meaning}
@@ -14,7 +14,7 @@ use Rattle.names.specs.Names.{end, line, function, mode, otherMode, part, wante
 use Rattle.steps.specs.Session.{isTe}
 use Rattle.plans.specs.declared.Reading.{Reading}
 use Rattle.plans.specs.Text.{number, octet}
-use Rattle.plans.specs.Reading.{beginning, inEnd, afterHome, afterWants, afterCall, afterTe, afterDamaged, firstBit, bits, done, firstOctet, octets, twice, planned, mistaken, going, beginLine, say, endWord, isSaid, beginNamed, firstWord, lacksCall, planning, functionWord, nameWord, teWord, listed, oneOf, atBits, atOctets, readWord, recordOf}
+use Rattle.plans.specs.Reading.{beginning, inEnd, afterHome, afterWants, afterCall, afterTe, afterDamaged, firstBit, bits, done, firstOctet, octets, blocksLine, twice, planned, mistaken, going, beginLine, say, endWord, isSaid, beginNamed, behindName, firstWord, lacksCall, planning, functionWord, nameWord, teWord, listed, oneOf, atBits, atOctets, readWord, recordOf}
 use Rattle.plans.proofs.Meant.{Meant, meant}
 use Rattle.plans.proofs.KeptLine.{Outside, within, Kept, Later, call-had, new-line, kept-wanted, kept-mode, kept-home, kept-function}
 
@@ -25,6 +25,9 @@ is-within n low high = simp (lt-ltb 1 n low, lt-ltb n 5 (omega (arith, high)))
 
 not-within : (n : ℕ) → 5 ≤ n → within n ≡ false
 not-within n high = simp (le-ltb n 5 high, both-neither)
+
+behind-line : (n : ℕ) → 5 ≤ n → 5 ≤ behindName n
+behind-line n high = either-way (λ (k : ℕ). 5 ≤ k) (eqb n blocksLine) firstOctet n (λ _. lit≤ tt) (λ _. high)
 
 module _ (r : Reading) (kept : Kept r) where
   slip : (what : ℕ) → Later (mistaken r what)
@@ -58,7 +61,7 @@ module _ (r : Reading) (kept : Kept r) where
   unfolding firstWord
   kept-first out m can-be =
       either-way Later (eqb (m .kind) end) _ _ (λ t. kept-begin out (m .number) (m .number) inEnd (λ _. can-be .ends t))
-      (λ _. either-way Later (eqb (m .kind) line) _ _ (λ t. kept-begin out (m .number) 0 (m .number) (λ e. clash (sym e ∙ not-within (m .number) (can-be .lines t .0))))
+      (λ _. either-way Later (eqb (m .kind) line) _ _ (λ t. kept-begin out (m .number) 0 (behindName (m .number)) (λ e. clash (sym e ∙ not-within (behindName (m .number)) (behind-line (m .number) (can-be .lines t .0)))))
       (λ _. slip beginning))
 
   -- the call, or Te

@@ -16,7 +16,7 @@ use Rattle.steps.specs.Session.{isTe}
 use Rattle.plans.specs.declared.Plan.{Plan}
 use Rattle.plans.specs.declared.Reading.{Reading}
 use Rattle.plans.specs.Text.{wordLength}
-use Rattle.plans.specs.Reading.{beginning, inEnd, afterCall, afterTe, done, planned, home, setAt, isSaid, firstWord, lacksCall, planning, functionWord, nameWord, readWord, recordOf, withHome, finishEnd, finishLine}
+use Rattle.plans.specs.Reading.{beginning, inEnd, afterCall, afterTe, done, planned, home, setAt, isSaid, behindName, firstWord, lacksCall, planning, functionWord, nameWord, readWord, recordOf, withHome, finishEnd, finishLine}
 use Rattle.plans.specs.Plain.{functionName, decimal, callText}
 use Rattle.plans.specs.Good.{GoodEnd}
 use Rattle.plans.proofs.Runs.{Stops, Found, Run, nothing, spaced, fed, join, word-run}
@@ -46,9 +46,9 @@ pub damaged-known : Known (bytes "damaged") line 7
 unfolding names bytes every namedBy sameList when both either
 damaged-known = known (bytes "damaged") line 7 tt
 
-pub blocks-known : Known (bytes "blocks") line 20
+pub blocks-known : Known (bytes "blocks") line 8
 unfolding names bytes every namedBy sameList when both either
-blocks-known = known (bytes "blocks") line 20 tt
+blocks-known = known (bytes "blocks") line 8 tt
 
 -- no function is called yet, or one that the caller has
 lacks-none : (sets : List ℕ) → lacksCall (planned sets 0 0) ≡ false
@@ -73,9 +73,9 @@ module _ (plan : Plan) (before : Line) (d : Found) where
   unfolding nameWord firstWord when either
   end-begins word n is-known is-new = name-run (reading plan before beginning) (reading plan (noLine n) inEnd) d word end n is-known refl refl refl (simp is-new) refl
 
-  pub line-begins : (word : List ℕ) (n : ℕ) → Known word line n → isSaid plan n ≡ false → Run (reading plan before beginning) d word (reading plan (noLine 0) n) d
+  pub line-begins : (word : List ℕ) (n : ℕ) → Known word line n → isSaid plan n ≡ false → Run (reading plan before beginning) d word (reading plan (noLine 0) (behindName n)) d
   unfolding nameWord firstWord when either
-  line-begins word n is-known is-new = name-run (reading plan before beginning) (reading plan (noLine 0) n) d word line n is-known refl refl refl (simp is-new) refl
+  line-begins word n is-known is-new = name-run (reading plan before beginning) (reading plan (noLine 0) (behindName n)) d word line n is-known refl refl refl (simp is-new) refl
 
   -- the caller's line
   pub caller-begins : isSaid plan 1 ≡ false → Run (reading plan before beginning) d (bytes "caller   ") (reading plan (noLine 1) inEnd) d

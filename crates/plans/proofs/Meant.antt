@@ -36,7 +36,7 @@ in-range kind low high m is-within is-kind =
 
 pub record Meant (m : Meaning) : Type 0 where
   pub ends : Range end 1 2 m
-  pub lines : Range line 5 20 m
+  pub lines : Range line 5 8 m
   pub functions : Range function 1 6 m
   pub parts : Range part 3 4 m
   pub wants : Range wanted 0 3 m
@@ -46,7 +46,7 @@ pub meant : (word : List ℕ) → Meant (named word)
 unfolding names bytes every both when
 meant word = record {
   ends = in-range end 1 2 (named word) (each-named (within end 1 2) names word refl refl);
-  lines = in-range line 5 20 (named word) (each-named (within line 5 20) names word refl refl);
+  lines = in-range line 5 8 (named word) (each-named (within line 5 8) names word refl refl);
   functions = in-range function 1 6 (named word) (each-named (within function 1 6) names word refl refl);
   parts = in-range part 3 4 (named word) (each-named (within part 3 4) names word refl refl);
   wants = in-range wanted 0 3 (named word) (each-named (within wanted 0 3) names word refl refl);

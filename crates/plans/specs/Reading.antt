@@ -90,6 +90,10 @@ firstOctet = 20
 abbrev pub octets : ℕ
 octets = 21
 
+-- the line for blocks, by the number of its name; no name has a number above 15
+abbrev pub blocksLine : ℕ
+blocksLine = 8
+
 -- a plan of these sets: of each end eight, the caller's first; what it wants and what its line is, then each function's modes, with 0 in the set
 -- where the end has it, and last, as a number, its home function
 abbrev pub planned : List ℕ → ℕ → ℕ → Plan
@@ -169,16 +173,20 @@ isSaid plan number =
     when (eqb number afterCall) (ltb 0 (plan .function))
     (when (eqb number afterTe) (ltb 0 (plan .te))
     (when (eqb number afterDamaged) false
-    (when (eqb number firstOctet) false (ltb 0 (setAt plan number home)))))
+    (when (eqb number blocksLine) false (ltb 0 (setAt plan number home)))))
 
 abbrev pub beginNamed : Reading → ℕ → ℕ → ℕ → Reading
 beginNamed r name end context = when (isSaid (r .plan) name) (mistaken r twice) (beginLine r end context)
+
+-- what may come next behind the name of a line that is about no end: that has the number of the name, but for blocks
+abbrev pub behindName : ℕ → ℕ
+behindName name = when (eqb name blocksLine) firstOctet name
 
 -- the first word of a line
 unfoldable pub firstWord : Reading → Meaning → Reading
 firstWord r m =
     when (eqb (m .kind) end) (beginNamed r (m .number) (m .number) inEnd)
-    (when (eqb (m .kind) line) (beginNamed r (m .number) 0 (m .number))
+    (when (eqb (m .kind) line) (beginNamed r (m .number) 0 (behindName (m .number)))
     (mistaken r beginning))
 
 -- the caller is known, and the function called, and the caller has not that function

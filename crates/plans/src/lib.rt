@@ -19,7 +19,7 @@ ghost use Rattle.laws.specs.Logic.{when, both};
 ghost use Rattle.laws.specs.Front.{front};
 ghost use Rattle.printing.specs.Page.{page, typed};
 ghost use Rattle.plans.specs.Text.{wordLength, number, hexValue, octet, linesBefore, wordAt};
-ghost use Rattle.plans.specs.Reading.{mistaken, going, place, setAt, store, added, say, firstOf, isSaid, beginNamed, lacksCall, planning, nameWord, teWord, bitWord, listed, oneOf, readWord, modesOf, recordOf, recordMistake, withHome, finishEnd, finishLine, between, scanAfter, beginsWord, readByte, noPlan, fresh, answer, finished, readText, bitPlace, marked, octetAt, blocksIn, afterTe, callNotHad};
+ghost use Rattle.plans.specs.Reading.{mistaken, going, place, setAt, store, added, say, firstOf, isSaid, beginNamed, behindName, lacksCall, planning, nameWord, teWord, bitWord, listed, oneOf, readWord, modesOf, recordOf, recordMistake, withHome, finishEnd, finishLine, between, scanAfter, beginsWord, readByte, noPlan, fresh, answer, finished, readText, bitPlace, marked, octetAt, blocksIn, afterTe, callNotHad};
 ghost use Rattle.plans.specs.Plain.{functionText, octetsText, bitsText, plain};
 ghost use Rattle.plans.specs.Inner.{Writes, homeText, pieceText, piecesText, Front, frontText, lacking, bitAt};
 ghost use Rattle.steps.specs.Session.{defaultTe};
@@ -75,6 +75,9 @@ pub const CALL_NOT_HAD: u8 = 19;
 pub const FIRST_OCTET: u8 = 20;
 
 pub const OCTETS: u8 = 21;
+
+// The line for blocks, by the number of its name: names have numbers below 16.
+const BLOCKS_LINE: u8 = 8;
 
 // What a word may name where: the kind of what it names, times 256, and what may come next.
 const END_AT_BEGIN: u16 = 256 * names::END as u16 + BEGIN as u16;
@@ -362,7 +365,8 @@ fn is_said(plan: Plan, number: u8) -> bool
     match number {
         AFTER_CALL => 0 < plan.function,
         AFTER_TE => 0 < plan.te,
-        AFTER_DAMAGED | FIRST_OCTET => false,
+        AFTER_DAMAGED => false,
+        BLOCKS_LINE => false,
         _ => 0 < set_at(plan, number, HOME),
     }
 }
@@ -382,6 +386,16 @@ fn begin_named(r: Reading, name: u8, end: u8, context: u8) -> Reading
         first: 0,
         context: context,
         what: r.what,
+    }
+}
+
+// What may come next behind the name of a line that is about no end.
+fn behind_name(name: u8) -> u8
+    ensures { λ r. ⌜ r ≡ behindName name ⌝ }
+{
+    match name {
+        BLOCKS_LINE => FIRST_OCTET,
+        _ => name,
     }
 }
 
@@ -434,7 +448,7 @@ fn name_word(r: Reading, kind: u8, n: u8) -> Reading
         QUALITY_IN_END | WANTED_AFTER_WANTS => say(r, 0, n, 0, r.first),
         PART_IN_END => going(r, n, r.what),
         END_AT_BEGIN => begin_named(r, n, n, IN_END),
-        LINE_AT_BEGIN => begin_named(r, n, 0, n),
+        LINE_AT_BEGIN => begin_named(r, n, 0, behind_name(n)),
         FUNCTION_AFTER_HOME => {
             if 0 < set_at(r.plan, r.end, HOME) {
                 return going(r, r.context, TWICE);

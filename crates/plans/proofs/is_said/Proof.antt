@@ -2,8 +2,6 @@
 -- Assumes nothing.
 use borrow.Author.Needs.{needs}
 use borrow.Author.Tests.{ne-eqb}
-use mathlib.Core.Logic.{inl, inr, ⊎-elim}
-use mathlib.Core.Path.{sym, ap}
 use Rattle.laws.specs.Logic.{when}
 use Rattle.plans.specs.Reading.{isSaid}
 use Rattle.plans.proofs.is_said.Statement.{statement}
@@ -22,11 +20,15 @@ returns-2 c = simp (c .before .match .keys2)
 
 returns-3 : tie.Need-returns-3
 unfolding when isSaid
-returns-3 c = let said = isSaid (c .before .args .plan) in ⊎-elim (λ here. sym (ap said here)) (λ here. sym (ap said here)) (c .match .keys3)
+returns-3 c = simp (c .match .keys3)
 
 returns-4 : tie.Need-returns-4
 unfolding when isSaid
-returns-4 c = let none = c .before .match .rest in simp (c .set-at .ensures, ne-eqb _ _ (none .0 .0 .1), ne-eqb _ _ (none .0 .1), ne-eqb _ _ (λ here. none .1 (inl here)), ne-eqb _ _ (λ here. none .1 (inr here)))
+returns-4 c = simp (c .match .keys4)
+
+returns-5 : tie.Need-returns-5
+unfolding when isSaid
+returns-5 c = let none = c .before .match .rest in simp (c .set-at .ensures, ne-eqb _ _ (none .0 .0 .0 .1), ne-eqb _ _ (none .0 .0 .1), ne-eqb _ _ (none .0 .1), ne-eqb _ _ (none .1))
 
 pub is-said-spec : {M : Type 1} → statement M
-is-said-spec = tie.close (tie.spec set-at-requires returns returns-2 returns-3 returns-4)
+is-said-spec = tie.close (tie.spec set-at-requires returns returns-2 returns-3 returns-4 returns-5)

@@ -47,6 +47,9 @@ going-requires-2 c κs = search needs
 begin-named-requires : tie.Need-begin-named-requires
 begin-named-requires c κs = search needs
 
+behind-name-requires : tie.Need-behind-name-requires
+behind-name-requires c κs = search needs
+
 begin-named-requires-2 : tie.Need-begin-named-requires-2
 begin-named-requires-2 c κs = search needs
 
@@ -87,7 +90,7 @@ returns-7 : tie.Need-returns-7
 returns-7 c = c .begin-named .ensures ∙ sym (end-at-begin (c .before .before .before .args .r) (meant (c .before .before .before)) (small (c .before .before .before)) (c .before .match .keys5))
 
 returns-8 : tie.Need-returns-8
-returns-8 c = c .begin-named2 .ensures ∙ sym (line-at-begin (c .before .before .before .args .r) (meant (c .before .before .before)) (small (c .before .before .before)) (c .before .match .keys6))
+returns-8 c = c .begin-named2 .ensures ∙ sym (line-at-begin (c .before .before .before .before .args .r) (meant (c .before .before .before .before)) (small (c .before .before .before .before)) (c .before .before .match .keys6) _ (c .before .behind-name .ensures))
 
 returns-9 : tie.Need-returns-9
 returns-9 c = c .store .ensures ∙ sym (home-said (c .before .before .before .before .before .args .r) (meant (c .before .before .before .before .before)) (small (c .before .before .before .before .before)) (c .before .before .before .match .keys7) _ (c .before .before .set-at .ensures) (c .before .if2 .left))
@@ -116,6 +119,7 @@ name-word-spec =
     say-requires-3
     going-requires-2
     begin-named-requires
+    behind-name-requires
     begin-named-requires-2
     set-at-requires
     going-requires-3

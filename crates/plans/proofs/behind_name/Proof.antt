@@ -1,0 +1,17 @@
+-- `plans::behind_name` meets its contract: the name decides.
+-- Assumes nothing.
+use borrow.Author.Tests.{ne-eqb}
+use Rattle.laws.specs.Logic.{when}
+use Rattle.plans.proofs.behind_name.Statement.{statement}
+use Rattle.plans.proofs.behind_name.Tie as tie
+
+returns : tie.Need-returns
+unfolding when
+returns c = simp (c .match .keys1)
+
+returns-2 : tie.Need-returns-2
+unfolding when
+returns-2 c = simp (ne-eqb _ _ (c .match .rest .1))
+
+pub behind-name-spec : {M : Type 1} → statement M
+behind-name-spec = tie.close (tie.spec returns returns-2)
