@@ -1,22 +1,22 @@
 -- The octets of the blocks in a plain text, read one by one.
 -- Assumes nothing.
-use Prim.Native.Nat.{ℕ, _<_, _+_}
+use Prim.Native.Nat.{ℕ, _<_, _+_, _*_, _/_, _%_}
 use native.Mathlib.Omega.{arith}
-use mathlib.Core.Path.{_≡_, refl}
-use mathlib.Core.Bool.{Bool, true, false}
+use mathlib.Core.Path.{_≡_, refl, ap₂, _∙_}
+use mathlib.Core.Bool.{Bool, true, false, not}
 use mathlib.Core.List.{List, [], _∷_, _++_, append-assoc, append-nil}
 use borrow.Author.Tests.{lt-ltb, le-ltb, ltb-true, eqb-true}
-use lib.Dec.{ltb, eqb, lit<}
+use lib.Dec.{T, ltb, eqb, lit<}
 use lib.ListN.{replicate}
 use Rattle.laws.specs.Logic.{when, both, either}
 use Rattle.laws.specs.Tests.{every, allBelow}
 use Rattle.laws.proofs.Logic.{both-true}
 use Rattle.laws.proofs.Computed.{below}
 use Rattle.names.specs.Bytes.{bytes}
-use Rattle.printing.specs.Page.{hexOctet}
+use Rattle.printing.specs.Page.{hexDigit, hexOctet}
 use Rattle.plans.specs.declared.Plan.{Plan}
 use Rattle.plans.specs.declared.Reading.{Reading}
-use Rattle.plans.specs.Text.{wordLength, hexValue, octet}
+use Rattle.plans.specs.Text.{endsWord, wordLength, hexValue, octet}
 use Rattle.plans.specs.Reading.{firstOctet, octets, isSaid, readWord, atBits, atOctets, finishLine}
 use Rattle.plans.specs.Plain.{entryText, octetsText}
 use Rattle.plans.specs.Good.{Octets}
@@ -25,19 +25,34 @@ use Rattle.plans.proofs.Words.{noLine, reading}
 use Rattle.plans.proofs.LineRuns.{blocks-known, line-begins}
 use Rattle.plans.proofs.ListRuns.{Ends, Lines, Ready, ready-on, entry-stops, entry-run}
 
+-- a digit ends no word, and has the value that it stands for
+abbrev isDigit : ℕ → Bool
+isDigit n = both (eqb (hexValue (hexDigit n)) n) (not (endsWord (hexDigit n)))
+
+sixteen : T (allBelow isDigit 16)
+unfolding hexValue allBelow when both either
+sixteen = tt
+
+a-digit : (n : ℕ) → n < 16 → (hexValue (hexDigit n) ≡ n) × (not (endsWord (hexDigit n)) ≡ true)
+a-digit n small =
+    let these = both-true (eqb (hexValue (hexDigit n)) n) (not (endsWord (hexDigit n))) (holds (isDigit n) (below isDigit 16 sixteen n small)) in
+    (eqb-true (hexValue (hexDigit n)) n (these .0), these .1)
+
 -- two digits are a word, and are read as the octet that they stand for
-abbrev isWritten : ℕ → Bool
-isWritten b = both (eqb (octet (hexOctet b)) b) (spelled (hexOctet b))
+module _ (b : ℕ) (small : b < 256) where
+  high : (hexValue (hexDigit (b / 16)) ≡ b / 16) × (not (endsWord (hexDigit (b / 16))) ≡ true)
+  high = a-digit (b / 16) (omega (arith, small))
 
-all-written : (b : ℕ) → b < 256 → isWritten b ≡ true
-unfolding octet hexValue every allBelow when both either
-all-written b small = holds (isWritten b) (below isWritten 256 tt b small)
+  low : (hexValue (hexDigit (b % 16)) ≡ b % 16) × (not (endsWord (hexDigit (b % 16))) ≡ true)
+  low = a-digit (b % 16) (omega arith)
 
-octet-read : (b : ℕ) → b < 256 → octet (hexOctet b) ≡ b
-octet-read b small = eqb-true (octet (hexOctet b)) b (both-true (eqb (octet (hexOctet b)) b) (spelled (hexOctet b)) (all-written b small) .0)
+  octet-read : octet (hexOctet b) ≡ b
+  unfolding octet when
+  octet-read = ap₂ (λ (h l : ℕ). 16 * h + l) (high .0) (low .0) ∙ omega arith
 
-octet-spelled : (b : ℕ) → b < 256 → spelled (hexOctet b) ≡ true
-octet-spelled b small = both-true (eqb (octet (hexOctet b)) b) (spelled (hexOctet b)) (all-written b small) .1
+  octet-spelled : spelled (hexOctet b) ≡ true
+  unfolding every both
+  octet-spelled = ap₂ (λ (h l : Bool). both h (both l true)) (high .1) (low .1)
 
 module _ (plan : Plan) where
   abbrev within : ℕ → Reading

@@ -16,7 +16,7 @@ use Rattle.names.specs.Names.{function, part, names, namesOf}
 use Rattle.plans.specs.declared.Plan.{Plan}
 use Rattle.plans.specs.declared.Piece.{Piece}
 use Rattle.plans.specs.Reading.{added}
-use Rattle.plans.specs.Plain.{functionName, functionsText, endText, decimal, octetsText, bitsText, damageText, callText, plain}
+use Rattle.plans.specs.Plain.{functionName, functionsText, endText, decimal, entryFront, octetsText, bitsText, damageText, callText, plain}
 use Rattle.plans.specs.Inner.{texts, Writes, homeText, pieceText, piecesText, fronts, frontText, Front}
 
 -- no name is of no kind
@@ -170,7 +170,7 @@ module _ (front blank : ℕ) (is-front : Front front blank) where
     pub from-within : from ≤ blank + 1
     from-within = subst (λ (n : ℕ). n ≤ blank + 1) (sym is-from) (front-in (eqb (count % 16) 0) .0)
 
-    pub front-there : take (blank + 1 - from) (drop from fronts) ≡ when (eqb (count % 16) 0) (frontText front blank) [] ++ bytes " "
+    pub front-there : take (blank + 1 - from) (drop from fronts) ≡ entryFront (frontText front blank) count
     front-there = ap (λ (n : ℕ). take (blank + 1 - n) (drop n fronts)) is-from ∙ front-in (eqb (count % 16) 0) .1
 
 -- so many bits of each end are written as there are, or none where the list is too short

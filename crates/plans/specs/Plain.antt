@@ -38,9 +38,12 @@ endText name plan end = name ++ functionsText plan end 1 6 ++ (bytes " home" ++ 
 abbrev pub decimal : ℕ → List ℕ
 decimal n = digits 10 (when (ltb n 10) 1 (when (ltb n 100) 2 (when (ltb n 1000) 3 (when (ltb n 10000) 4 5)))) n
 
--- an entry of a list behind so many others, sixteen in a line
+-- what stands before an entry of a list, behind so many others: sixteen are in a line, which begins with a front
+abbrev pub entryFront : List ℕ → ℕ → List ℕ
+entryFront front count = when (eqb (count % 16) 0) front [] ++ bytes " "
+
 abbrev pub entryText : List ℕ → ℕ → List ℕ → List ℕ
-entryText front count entry = when (eqb (count % 16) 0) front [] ++ bytes " " ++ entry
+entryText front count entry = entryFront front count ++ entry
 
 -- the octets of the blocks, behind so many others
 unfoldable pub octetsText : ℕ → List ℕ → List ℕ

@@ -20,7 +20,7 @@ ghost use Rattle.laws.specs.Front.{front};
 ghost use Rattle.printing.specs.Page.{page, typed};
 ghost use Rattle.plans.specs.Text.{wordLength, number, hexValue, octet, linesBefore, wordAt};
 ghost use Rattle.plans.specs.Reading.{mistaken, going, place, setAt, store, added, say, firstOf, isSaid, beginNamed, behindName, lacksCall, planning, nameWord, teWord, bitWord, listed, oneOf, readWord, modesOf, recordOf, recordMistake, withHome, finishEnd, finishLine, between, scanAfter, beginsWord, readByte, noPlan, fresh, answer, finished, readText, bitPlace, marked, octetAt, blocksIn, afterTe, callNotHad};
-ghost use Rattle.plans.specs.Plain.{functionText, octetsText, bitsText, plain};
+ghost use Rattle.plans.specs.Plain.{functionText, entryFront, octetsText, bitsText, plain};
 ghost use Rattle.plans.specs.Inner.{Writes, homeText, pieceText, piecesText, Front, frontText, lacking, bitAt};
 ghost use Rattle.steps.specs.Session.{defaultTe};
 
@@ -852,8 +852,8 @@ const NO_MORE_WANTED: usize = 67;
 // The set that holds the name 'home' alone.
 const HOME_NAMED: u16 = 8;
 
-// The fronts of lines for damaged bits and for blocks, with the blank that stands before each entry; where the blanks stand, the other
-// fronts, and where they end.
+// The fronts of lines for damaged bits and for blocks, with the blank that stands before each entry; where the blanks stand, and the
+// other fronts.
 const FRONTS: [u8; 49] = *b"\ndamaged   caller \ndamaged   answerer \nblocks    ";
 
 const CALLER_BLANK: usize = 17;
@@ -865,8 +865,6 @@ const ANSWERER_BLANK: usize = 37;
 const BLOCKS_LINES: usize = 38;
 
 const BLOCKS_BLANK: usize = 48;
-
-const FRONTS_END: usize = 49;
 
 // How many pieces the plain form has beside Te, blocks and damaged bits, which stand before the last.
 const LAST_PIECE: u8 = 18;
@@ -1020,6 +1018,16 @@ fn front_of(front: usize, blank: usize, count: usize) -> usize
     blank
 }
 
+// What stands before an entry of a list, behind so many others: a blank, and before that the front where a line begins.
+fn put_front(out: &mut [u8], at: usize, front: usize, blank: usize, count: usize) -> usize
+    requires { ⌜ Front front blank ⌝ }
+    ensures { λ r. ⌜ page (now (out .exit)) r ≡ typed (page (now (out .entry)) at) (entryFront (frontText front blank) count) ⌝ }
+{
+    let from = front_of(front, blank, count);
+    let end = blank + 1;
+    printing::put_text(out, at, &FRONTS[from..end])
+}
+
 // The damaged bits of an end from a place on, so many of them; in each line sixteen, behind its front.
 fn put_bits(
     out: &mut [u8],
@@ -1035,14 +1043,12 @@ fn put_bits(
     requires { ⌜ start + times ≤ length (now damaged) ⌝ }
     ensures { λ r. ⌜ page (now (out .exit)) r ≡ typed (page (now (out .entry)) at) (bitsText (frontText front blank) 0 0 (take times (drop start (now (damaged .entry))))) ⌝ }
 {
-    let end = blank + 1;
     let mut n = at;
     let mut count: usize = 0;
     let mut i: usize = 0;
     while i < times {
         if damaged[start + i] == 1 {
-            let from = front_of(front, blank, count);
-            n = printing::put_text(out, n, &FRONTS[from..end]);
+            n = put_front(out, n, front, blank, count);
             n = printing::put_decimal(out, n, i as u64);
             count += 1;
         }
@@ -1058,8 +1064,7 @@ fn put_octets(out: &mut [u8], at: usize, blocks: &[u8]) -> usize
     let mut n = at;
     let mut i: usize = 0;
     while i < blocks.len() {
-        let from = front_of(BLOCKS_LINES, BLOCKS_BLANK, i);
-        n = printing::put_text(out, n, &FRONTS[from..FRONTS_END]);
+        n = put_front(out, n, BLOCKS_LINES, BLOCKS_BLANK, i);
         n = printing::put_octet(out, n, blocks[i]);
         i += 1;
     }

@@ -11,23 +11,18 @@ use mir.Facts.{fits-below}
 use denote.Ref.{now}
 use Rattle.printing.specs.Page.{Page, page, typed}
 use Rattle.printing.proofs.Pages.{typed-then}
-use Rattle.names.specs.Bytes.{bytes}
 use Rattle.plans.specs.Plain.{bitsText}
-use Rattle.plans.specs.Inner.{fronts, frontText}
+use Rattle.plans.specs.Inner.{frontText}
 use Rattle.plans.proofs.Numbers.{decimal-typed}
 use Rattle.plans.proofs.Typing.{bits-length, bit-there, bit-on, bit-off, bits-end}
-use Rattle.plans.proofs.Pieces.{from-within, front-there}
 use Rattle.plans.proofs.put_bits.Statement.{statement}
 use Rattle.plans.proofs.put_bits.Tie as tie
 
 abbrev Inv-loop : tie.InvT-loop
-Inv-loop out₀ at front blank damaged start times fronts end n₀ count₀ i₀ out n count i = (typed (page out n) (bitsText (frontText front blank) count i (drop i (take times (drop start damaged)))) ≡ typed (page out₀ at) (bitsText (frontText front blank) 0 0 (take times (drop start damaged)))) × (count ≤ i) × (length out ≡ length out₀)
+Inv-loop out₀ at front blank damaged start times n₀ count₀ i₀ out n count i = (typed (page out n) (bitsText (frontText front blank) count i (drop i (take times (drop start damaged)))) ≡ typed (page out₀ at) (bitsText (frontText front blank) 0 0 (take times (drop start damaged)))) × (count ≤ i) × (length out ≡ length out₀)
 
 abbrev μ-loop : tie.MeasureT-loop
-μ-loop out₀ at front blank damaged start times fronts end n₀ count₀ i₀ out n count i = times - i
-
-add-end : tie.Need-add-end Inv-loop μ-loop
-add-end c = fits-below {n = 50} tt (omega (arith, c .before .before .pre .0 .within))
+μ-loop out₀ at front blank damaged start times n₀ count₀ i₀ out n count i = times - i
 
 loop-holds : tie.Need-loop-holds Inv-loop μ-loop
 loop-holds c = (refl, lit≤ tt, refl)
@@ -38,26 +33,14 @@ add-if1 c = search needs
 shared-slice-read-if1 : tie.Need-shared-slice-read-if1 Inv-loop μ-loop
 shared-slice-read-if1 c = omega (arith, c .before .loop-test .taken, c .before .before .before .before .before .pre .1 .1)
 
-front-of-requires : tie.Need-front-of-requires Inv-loop μ-loop
-front-of-requires c κs = tt
-
-sub-put-text : tie.Need-sub-put-text Inv-loop μ-loop
-sub-put-text c = let at-loop = c .before .before .before .before .before in let start = at-loop .before .before .before in from-within (start .args .front) (start .args .blank) (start .pre .0) (at-loop .loop .count) _ (c .before .front-of .ensures)
-
-part-put-text-start : tie.Need-part-put-text-start Inv-loop μ-loop
-part-put-text-start c = let at-loop = c .before .before .before .before .before .before in let start = at-loop .before .before .before in from-within (start .args .front) (start .args .blank) (start .pre .0) (at-loop .loop .count) _ (c .before .before .front-of .ensures)
-
-part-put-text-end : tie.Need-part-put-text-end Inv-loop μ-loop
-part-put-text-end c = let start = c .before .before .before .before .before .before .before .before .before in omega (arith, start .pre .0 .within)
-
-put-text-requires : tie.Need-put-text-requires Inv-loop μ-loop
-put-text-requires c κs = tt
+put-front-requires : tie.Need-put-front-requires Inv-loop μ-loop
+put-front-requires c κs = c .before .before .before .before .before .before .before .pre .0
 
 put-decimal-requires : tie.Need-put-decimal-requires Inv-loop μ-loop
 put-decimal-requires c κs = tt
 
 add-count : tie.Need-add-count Inv-loop μ-loop
-add-count c = let at-loop = c .before .before .before .before .before .before .before .before .before .before .before .before .before .before in fits-below {n = 9001} tt (omega (arith, at-loop .loop .inv .1, c .before .before .before .before .before .before .before .before .before .before .before .before .before .loop-test .taken, at-loop .before .before .before .pre .1 .0))
+add-count c = let at-loop = c .before .before .before .before .before .before .before .before .before .before .before in fits-below {n = 9001} tt (omega (arith, at-loop .loop .inv .1, c .before .before .before .before .before .before .before .before .before .before .loop-test .taken, at-loop .before .before .before .pre .1 .0))
 
 add-i : tie.Need-add-i Inv-loop μ-loop
 add-i c = fits-below {n = 9001} tt (omega (arith, c .before .before .loop-test .taken, c .before .before .before .before .before .before .pre .1 .0))
@@ -66,7 +49,6 @@ loop-less : tie.Need-loop-less Inv-loop μ-loop
 loop-less c = omega (arith, c .before .before .loop-test .taken)
 
 loop-again : tie.Need-loop-again Inv-loop μ-loop
-unfolding fronts bytes
 loop-again c =
     let at-loop = c .before .before .before in
     let start = at-loop .before .before .before in
@@ -81,11 +63,10 @@ loop-again c =
     let from-here : Page → ℕ → Page = λ (p : Page) (n : ℕ). typed p (bitsText front n (i + 1) (drop (i + 1) bits)) in
     ⊎-elim
     (λ one. (
-      ap₂ from-here (ap₂ page (one .12) (one .13)
-          ∙ typed-then here _ _ (one .5 .ensures ∙ ap (typed here) (front-there (args .front) (args .blank) (start .pre .0) count _ (one .1 .ensures))) (decimal-typed _ _ i (omega (arith, c .before .before .loop-test .taken, start .pre .1 .0)) (one .9 .ensures))) (one .14)
+      ap₂ from-here (ap₂ page (one .9) (one .10) ∙ typed-then here _ _ (one .2 .ensures) (decimal-typed _ _ i (omega (arith, c .before .before .loop-test .taken, start .pre .1 .0)) (one .6 .ensures))) (one .11)
           ∙ sym (bit-on here front count bits i inside (bit ∙ one .0 .taken)) ∙ at-loop .loop .inv .0,
-      omega (arith, one .14, at-loop .loop .inv .1),
-      ap length (one .12) ∙ one .10 .given ∙ one .6 .given ∙ at-loop .loop .inv .2,
+      omega (arith, one .11, at-loop .loop .inv .1),
+      ap length (one .9) ∙ one .7 .given ∙ one .3 .given ∙ at-loop .loop .inv .2,
     ))
     (λ none. (
       ap₂ from-here (ap₂ page (none .1) (none .2)) (none .3) ∙ sym (bit-off here front count bits i inside (λ e. none .0 .left (sym bit ∙ e))) ∙ at-loop .loop .inv .0,
@@ -112,15 +93,10 @@ put-bits-spec =
     (tie.spec
     Inv-loop
     μ-loop
-    add-end
     loop-holds
     add-if1
     shared-slice-read-if1
-    front-of-requires
-    sub-put-text
-    part-put-text-start
-    part-put-text-end
-    put-text-requires
+    put-front-requires
     put-decimal-requires
     add-count
     add-i
