@@ -15,7 +15,7 @@ use lib.Seq.{drop-cons}
 use Rattle.laws.specs.Logic.{when, either}
 use Rattle.laws.proofs.Logic.{either-way}
 use Rattle.plans.specs.declared.Reading.{Reading}
-use Rattle.plans.specs.Text.{blank, endsWord, wordLength, word, noNumber, withDigit, numberOn, number, lineFeed, comment, lineFeeds, wordAt, noOctet}
+use Rattle.plans.specs.Text.{blank, endsWord, wordLength, word, noNumber, withDigit, numberOn, lineFeed, comment, lineFeeds, wordAt, noOctet}
 use Rattle.plans.specs.Reading.{readWord, finishLine, between, inWord, inComment, scanAfter, beginsWord, readByte, noPlan, answer, finished, readFrom, isBit, markedBit, markedFrom, octetAt, oneOctet, octetsFrom}
 use Rattle.plans.specs.Inner.{nowhere, bitAt}
 
