@@ -283,8 +283,8 @@ A call text says what both ends can do, and what the caller calls for:
     call      data
 
 An end has functions, each with its modulations behind it. The first is its home function, or the one
-behind 'home'. Further lines may be there too: Te in milliseconds; the octets of the caller's own blocks
-in hex; and bits that arrive inverted, where bit n is sent n * 10 / 3 ms after the call began:
+behind 'home'. Further lines may be there too: Te in milliseconds; octets of the caller's own blocks,
+in hex digits; and bits that arrive inverted, where bit n is sent n * 10 / 3 ms after the call began:
 
     Te        500
     blocks    05 B5 01 41 31 30
