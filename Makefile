@@ -3,9 +3,10 @@
 PREFIX ?= /usr/local
 DESTDIR ?=
 
-# The version is the header's. Its first number is that of the shared library: a program finds no library of another one.
+# The version is the header's. Its first two numbers are in the name by which a program looks for the shared library: while the first is 0, calls
+# may take other parameters with another second one, and a program must not find a library that it was not built for.
 VERSION := $(shell sed -n 's/^.define TAILSPRIG_VERSION "\(.*\)"$$/\1/p' include/tailsprig.h)
-SONAME := libtailsprig.so.$(firstword $(subst ., ,$(VERSION)))
+SONAME := libtailsprig.so.$(basename $(VERSION))
 MADE := target/staticlib
 INCLUDE := $(DESTDIR)$(PREFIX)/include
 LIB := $(DESTDIR)$(PREFIX)/lib

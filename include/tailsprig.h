@@ -5,7 +5,9 @@
  *     Numbers with names              refusals, kinds, functions, items, PCM, access, tags
  *     Writing                         octets to bits
  *     Listening                       bits to messages
- *     Menus, records, the choice      what a menu says, what an end can do, what both go on with
+ *     Menus                           what a menu says
+ *     Makers' own fields              what a maker put into a CM, and its blocks
+ *     Records, the choice             what an end can do and the menus that say it, what both ends go on with
  *     Sessions                        states and their limits, events, what a host does in each state and at the end
  *
  * A host keeps three things for each line: a record of what its end can do (struct tailsprig_record), what it has heard
@@ -39,16 +41,20 @@ extern "C" {
 #endif
 
 /*
- * The version, as text and as numbers. Programs that were built with another first number have to be built anew. With
- * another second number a call may answer otherwise than before; what a host then has to change:
+ * The version, as text and as numbers. Programs that were built with another first number, or while that is 0 with
+ * another second one, have to be built anew; a shared library of another such number is not found when they start.
+ * With another second number a call may answer otherwise than before; what a host then has to change:
  *
+ *   0.3.0  tailsprig_cm takes the octets of our own blocks behind the function; a host without any gives a pointer that
+ *          is not NULL and 0. TAILSPRIG_MENU_MOST is 64 where it was 7, so buffers by that name grow. There are two
+ *          more refusals: 14 of tailsprig_cm with blocks, 14 and 15 of the calls for fields, which are new.
  *   0.2.0  tailsprig_start_caller_default gives a Te of 1,000 where it gave 500. A host whose callers cannot be quiet
  *          that long, as textphones, calls tailsprig_start_caller with TAILSPRIG_TE_TEXTPHONE in its place. A host
  *          that gives Te has nothing to change.
  */
-#define TAILSPRIG_VERSION "0.2.0"
+#define TAILSPRIG_VERSION "0.3.0"
 #define TAILSPRIG_VERSION_MAJOR 0
-#define TAILSPRIG_VERSION_MINOR 2
+#define TAILSPRIG_VERSION_MINOR 3
 #define TAILSPRIG_VERSION_PATCH 0
 
 /* ---- Numbers with names ---- */
@@ -58,7 +64,7 @@ enum tailsprig_refusal {
     TAILSPRIG_NOT_A_BIT = 1,        /* a bit that is not 0 or 1 */
     TAILSPRIG_STOP_BIT_ZERO = 2,    /* a stop bit that is 0 */
     TAILSPRIG_BAD_OCTET = 3,        /* b4 = 1 with b3 or b5 = 1 */
-    TAILSPRIG_TOO_MANY_OCTETS = 4,  /* over 64 octets */
+    TAILSPRIG_TOO_MANY_OCTETS = 4,  /* over 64 octets; in tailsprig_cm, the whole CM with its field */
     TAILSPRIG_NO_CALL_FUNCTION = 5, /* no octets, or the first is not a category octet with tag 1; in tailsprig_cm, a
                                        function that is not available */
     TAILSPRIG_SHORT_BUFFER = 6,     /* the lent buffer is too short */
@@ -68,7 +74,10 @@ enum tailsprig_refusal {
     TAILSPRIG_BAD_RECORD = 10,      /* a record, a session, Te or a kind outside its range */
     TAILSPRIG_NOT_OFFERED = 11,     /* the choice was not offered */
     TAILSPRIG_WRONG_CATEGORY = 12,  /* in writing: tag 0, or another category in CI */
-    TAILSPRIG_CUT_SHORT = 13        /* a sequence cut short */
+    TAILSPRIG_CUT_SHORT = 13,       /* a sequence cut short */
+    TAILSPRIG_BAD_BLOCK = 14,       /* a block longer than what remains, or a code that does not fit in it */
+    TAILSPRIG_BAD_PACKING = 15      /* a field with more than four bits left over, or with leftover bits or options
+                                       that are not 0 */
 };
 
 /* Kinds of messages. */
@@ -135,13 +144,14 @@ enum tailsprig_access_option {
     TAILSPRIG_ACCESS_DIGITAL = 4 /* the end that says it is on a digital network */
 };
 
-/* The tags of the groups that V.8 defines and that are read here. */
+/* The tags of the groups that are read here. */
 enum tailsprig_tag {
     TAILSPRIG_TAG_CALL_FUNCTION = 1,
     TAILSPRIG_TAG_MODULATION = 5,
     TAILSPRIG_TAG_PCM = 7,
     TAILSPRIG_TAG_PROTOCOL = 10,
-    TAILSPRIG_TAG_ACCESS = 13
+    TAILSPRIG_TAG_ACCESS = 13,
+    TAILSPRIG_TAG_FIELD = 15 /* makers' own; of the calls that read a menu only tailsprig_fields looks into it */
 };
 
 /* ---- Writing ---- */
@@ -296,7 +306,7 @@ int32_t tailsprig_find(const uint8_t *octets, size_t octets_len, uint8_t tag);
  */
 size_t tailsprig_part(const uint8_t *octets, size_t octets_len, size_t place);
 
-/* What a menu offers. The first group of a tag counts; groups that V.8 does not define are passed over. */
+/* What a menu offers. The first group of a tag counts; all groups but the five that show here are passed over. */
 struct tailsprig_offer {
     uint8_t function;       /* tailsprig_function; 0 and 7 are read too */
     uint16_t items;         /* tailsprig_items; those past a short modulation group are absent */
@@ -314,6 +324,88 @@ struct tailsprig_menu_read {
 
 /* Reads a menu. */
 struct tailsprig_menu_read tailsprig_read(const uint8_t *octets, size_t octets_len);
+
+/*
+ * ---- Makers' own fields ----
+ *
+ * A CM may carry a field, the group of tag 15, in which makers put what is theirs, as the firmware level of a logger;
+ * JM never does. What a field holds are octets, and these are blocks, one behind the other. A block is
+ *
+ *     length           one octet: how many octets of the block follow it
+ *     country code     goes on past each octet of 255 and ends with the first other one
+ *     provider length  one octet
+ *     provider code    as many octets as that says, perhaps none
+ *     rest             what is left of the block, perhaps nothing; its meaning is the provider's
+ *
+ * so the shortest one has three octets, as 02 B5 00. A host reads the field of a heard CM by tailsprig_fields, goes
+ * through its blocks, and takes those whose codes it knows; it gives its own blocks to tailsprig_cm. examples/fields.c
+ * does both.
+ *
+ * How octets stand in the group: of each extension octet b0, b1, b2, b6, b7, in this order, are joined, and every eight
+ * of these bits make an octet, the lowest first. At most four bits are left over, and they are 0, as are the options of
+ * the category octet.
+ */
+
+/* The most octets that the field of a heard CM has: no more than 62 extension octets fit, with five bits each. */
+#define TAILSPRIG_FIELD_MOST 38
+
+/*
+ * Reads the field of a heard CM into out, and answers how many octets it has, 0 to TAILSPRIG_FIELD_MOST: 0 where no
+ * group of tag 15 stands, or an empty one. The first such group counts, wherever it stands. Later bytes of out keep
+ * their values. A refusal writes nothing. In this order:
+ *    4, 5, 3  the CM cannot be read, whether it has a field or not
+ *   15  more than four bits are left over; or bits left over, or the group's options, are not 0
+ *   14  a block is longer than what remains, or a code does not fit in its block
+ *    6  out is too short
+ *
+ * A refused field is the maker's mistake alone: the CM that has it is agreed, read and answered as any other.
+ */
+int32_t tailsprig_fields(const uint8_t *octets, size_t octets_len, uint8_t *out, size_t out_len);
+
+/* A part of lent octets: octets[place .. place + size - 1], or nothing where the size is 0. */
+struct tailsprig_span {
+    size_t place;
+    size_t size;
+};
+
+/* A block, by its parts. All numbers are 0 where there is none: a block has a size of 3 at least. */
+struct tailsprig_block {
+    struct tailsprig_span whole;    /* with its length octet */
+    struct tailsprig_span country;  /* the country code, octets of 255 and all */
+    struct tailsprig_span provider; /* the provider code, without its length octet */
+    struct tailsprig_span rest;
+};
+
+struct tailsprig_blocks_read {
+    size_t blocks; /* how many there are; 0 beside a refusal */
+    int32_t code;  /* 0, or -14 */
+};
+
+/*
+ * Goes over the octets of a field, however many, and says how many blocks they are; no octets are no blocks. Refusal
+ * 14: a block is longer than what remains, or a code does not fit in its block.
+ */
+struct tailsprig_blocks_read tailsprig_blocks(const uint8_t *octets, size_t octets_len);
+
+/*
+ * The block of a number, counted from 0. All blocks are tested: there is none past the last one, and none at all where
+ * tailsprig_blocks refuses.
+ */
+struct tailsprig_block tailsprig_block_of(const uint8_t *octets, size_t octets_len, size_t number);
+
+/*
+ * The block that begins at a place, tested alone; none where no block that fits begins there, and at the end. So all
+ * blocks are gone through in one pass, where tailsprig_block_of would begin at the first one each time:
+ *
+ *     for (size_t at = 0; at < len;) {                         octets that tailsprig_fields wrote: all blocks fit
+ *         struct tailsprig_block block = tailsprig_block_at(octets, len, at);
+ *         on_block(octets, block);
+ *         at = block.whole.place + block.whole.size;
+ *     }
+ *
+ * The loop ends: every block that fits has a size. For octets from elsewhere ask tailsprig_blocks first.
+ */
+struct tailsprig_block tailsprig_block_at(const uint8_t *octets, size_t octets_len, size_t place);
 
 /*
  * ---- Records ----
@@ -341,20 +433,29 @@ struct tailsprig_record {
 };
 
 /* No menu that is made has more octets. */
-#define TAILSPRIG_MENU_MOST 7
+#define TAILSPRIG_MENU_MOST 64
 
 /*
- * Makes the CM of a record for a function into out, and answers how many octets it has, 4 to 7. Later bytes of out keep
- * their values. A refusal writes nothing:
+ * Makes the CM of a record for a function into out, and answers how many octets it has: 4 to 7, and with a field up to
+ * 64. Later bytes of out keep their values. A refusal writes nothing. In this order:
  *   10  the record is bad
  *    5  the function is not available: 0 and 7 to 255 never are
+ *    4  the CM would have more than 64 octets with its field
+ *   14  a block is longer than what remains, or a code does not fit in its block
  *    6  out is too short
+ *
+ * blocks  the octets of our own blocks, one behind the other; they become the field, which stands last. With a
+ *     blocks_len of 0 there is none, and the pointer is still not NULL. 36 octets fit, and 35 where the CM has 6 or 7
+ *     octets without them: with PCM, or with both LAPM and access.
+ *     Not every station takes them: spandsp 0.0.6 does not return from a CM with a group of tag 15 (measured;
+ *     docs/INTEROP.md). Who calls stations of unknown make gives blocks only where the station is known to take them.
  */
-int32_t tailsprig_cm(struct tailsprig_record own, uint8_t function, uint8_t *out, size_t out_len);
+int32_t tailsprig_cm(struct tailsprig_record own, uint8_t function, const uint8_t *blocks, size_t blocks_len,
+                     uint8_t *out, size_t out_len);
 
 /*
- * Makes the JM of a record for a heard CM into out, and answers how many octets it has, 4 to 7. A refusal writes
- * nothing:
+ * Makes the JM of a record for a heard CM into out, and answers how many octets it has, 4 to 7. It never has a field,
+ * and what the CM has in one does not matter. A refusal writes nothing:
  *   10  the record is bad
  *    4, 5, 3  the heard CM cannot be read
  *    6  out is too short

@@ -50,6 +50,20 @@ STRUCT(tailsprig_menu_read, 12);
 FIELD(tailsprig_menu_read, offer, 0, 8);
 FIELD(tailsprig_menu_read, code, 8, 4);
 
+STRUCT(tailsprig_span, 16);
+FIELD(tailsprig_span, place, 0, 8);
+FIELD(tailsprig_span, size, 8, 8);
+
+STRUCT(tailsprig_block, 64);
+FIELD(tailsprig_block, whole, 0, 16);
+FIELD(tailsprig_block, country, 16, 16);
+FIELD(tailsprig_block, provider, 32, 16);
+FIELD(tailsprig_block, rest, 48, 16);
+
+STRUCT(tailsprig_blocks_read, 16);
+FIELD(tailsprig_blocks_read, blocks, 0, 8);
+FIELD(tailsprig_blocks_read, code, 8, 4);
+
 STRUCT(tailsprig_modes, 4);
 FIELD(tailsprig_modes, available, 0, 1);
 FIELD(tailsprig_modes, pcm, 1, 1);
@@ -92,6 +106,8 @@ NUMBER(TAILSPRIG_BAD_RECORD, 10);
 NUMBER(TAILSPRIG_NOT_OFFERED, 11);
 NUMBER(TAILSPRIG_WRONG_CATEGORY, 12);
 NUMBER(TAILSPRIG_CUT_SHORT, 13);
+NUMBER(TAILSPRIG_BAD_BLOCK, 14);
+NUMBER(TAILSPRIG_BAD_PACKING, 15);
 
 NUMBER(TAILSPRIG_CI, 1);
 NUMBER(TAILSPRIG_MENU, 2);
@@ -144,13 +160,15 @@ NUMBER(TAILSPRIG_TAG_MODULATION, 5);
 NUMBER(TAILSPRIG_TAG_PCM, 7);
 NUMBER(TAILSPRIG_TAG_PROTOCOL, 10);
 NUMBER(TAILSPRIG_TAG_ACCESS, 13);
+NUMBER(TAILSPRIG_TAG_FIELD, 15);
 
 NUMBER(TAILSPRIG_MOST_OCTETS, 64);
 NUMBER(TAILSPRIG_MOST_BITS, 660);
 NUMBER(TAILSPRIG_OCTET_BITS, 10);
 NUMBER(TAILSPRIG_CJ_BITS, 30);
 NUMBER(TAILSPRIG_NOWHERE, 64);
-NUMBER(TAILSPRIG_MENU_MOST, 7);
+NUMBER(TAILSPRIG_FIELD_MOST, 38);
+NUMBER(TAILSPRIG_MENU_MOST, 64);
 
 NUMBER(TAILSPRIG_HEARD_NOTHING, 0);
 NUMBER(TAILSPRIG_HEARD_CI, 1);
@@ -202,7 +220,7 @@ NUMBER(TAILSPRIG_ENDED, 16);
 NUMBER(TAILSPRIG_GO_ON, 32);
 
 NUMBER(TAILSPRIG_VERSION_MAJOR, 0);
-NUMBER(TAILSPRIG_VERSION_MINOR, 2);
+NUMBER(TAILSPRIG_VERSION_MINOR, 3);
 NUMBER(TAILSPRIG_VERSION_PATCH, 0);
 
 #endif
@@ -225,6 +243,15 @@ static const uint8_t JM[] = {0xC1, 0x05, 0x13, 0x10};
 static const uint8_t JM_OF_NOTHING[] = {0xC1, 0x05, 0x10, 0x10};
 static const uint8_t PCM_CM[] = {0xC1, 0x65, 0x10, 0x10, 0x27, 0x0D};
 static const uint8_t PCM_JM[] = {0xC1, 0x65, 0x10, 0x10, 0x47, 0x8D};
+
+/* Two blocks, the first with a country code of two octets and a provider code; and the CM above with them as its field. */
+static const uint8_t BLOCKS[] = {0x07, 0xFF, 0xB5, 0x02, 0x41, 0x43, 0x01, 0x09, 0x02, 0x26, 0x00};
+static const uint8_t FIELD_CM[] = {0xC1, 0x45, 0x13, 0x90, 0x2A, 0x0F, 0x17, 0xD0, 0xD7, 0x53, 0x53, 0x11,
+                                   0x14, 0x50, 0x13, 0x52, 0x10, 0x92, 0x10, 0x11, 0xD0, 0x14, 0x10, 0x10};
+
+/* Lent with a length of 0. */
+static const uint8_t NOTHING[1];
+
 #define CM_BITS "1111111111" "0000001111" "0100000111" "0101000101" "0110010001" "0000010011" "0010101001"
 #define CI_BITS "1111111111" "0000000001" "0100000111"
 #define CJ_BITS "0000000001" "0000000001" "0000000001"
@@ -438,10 +465,93 @@ static void menus(void)
     CHECK(tailsprig_find(every, sizeof every, TAILSPRIG_TAG_PCM) == 4);
     CHECK(tailsprig_find(every, sizeof every, TAILSPRIG_TAG_PROTOCOL) == 5);
     CHECK(tailsprig_find(every, sizeof every, TAILSPRIG_TAG_ACCESS) == 6);
-    CHECK(tailsprig_find(every, sizeof every, 15) == TAILSPRIG_NOWHERE);
+    CHECK(tailsprig_find(FIELD_CM, sizeof FIELD_CM, TAILSPRIG_TAG_FIELD) == 5);
+    CHECK(tailsprig_find(every, sizeof every, TAILSPRIG_TAG_FIELD) == TAILSPRIG_NOWHERE);
     CHECK(tailsprig_find(every, 0, 1) == -TAILSPRIG_NO_CALL_FUNCTION);
     CHECK(tailsprig_part(every, sizeof every, 1) == 3 && tailsprig_part(every, sizeof every, 2) == 0);
     names_in_menus();
+}
+
+static bool is_span(struct tailsprig_span span, size_t place, size_t size)
+{
+    return span.place == place && span.size == size;
+}
+
+static bool is_no_block(struct tailsprig_block block)
+{
+    return is_span(block.whole, 0, 0) && is_span(block.country, 0, 0) && is_span(block.provider, 0, 0) && is_span(block.rest, 0, 0);
+}
+
+/* The blocks of BLOCKS. */
+static bool is_first(struct tailsprig_block block)
+{
+    return is_span(block.whole, 0, 8) && is_span(block.country, 1, 2) && is_span(block.provider, 4, 2) && is_span(block.rest, 6, 2);
+}
+
+static bool is_second(struct tailsprig_block block)
+{
+    return is_span(block.whole, 8, 3) && is_span(block.country, 9, 1) && is_span(block.provider, 11, 0) && is_span(block.rest, 11, 0);
+}
+
+static void blocks(void)
+{
+    const uint8_t shortest[] = {0x02, 0xB5, 0x00}, no_country[] = {0x00}, all_255[] = {0x02, 0xFF, 0xFF}, too_long[] = {0x03, 0xB5, 0x00};
+    const uint8_t no_provider[] = {0x01, 0xB5}, provider_too_long[] = {0x02, 0xB5, 0x01, 0x02, 0x26, 0x00};
+    struct tailsprig_blocks_read blocks_read = tailsprig_blocks(BLOCKS, sizeof BLOCKS);
+
+    CHECK(blocks_read.blocks == 2 && blocks_read.code == 0);
+    blocks_read = tailsprig_blocks(NOTHING, 0);
+    CHECK(blocks_read.blocks == 0 && blocks_read.code == 0);
+    CHECK(tailsprig_blocks(shortest, sizeof shortest).blocks == 1);
+    blocks_read = tailsprig_blocks(BLOCKS, sizeof BLOCKS - 1);
+    CHECK(blocks_read.blocks == 0 && blocks_read.code == -TAILSPRIG_BAD_BLOCK);
+    CHECK(tailsprig_blocks(no_country, sizeof no_country).code == -TAILSPRIG_BAD_BLOCK);
+    CHECK(tailsprig_blocks(all_255, sizeof all_255).code == -TAILSPRIG_BAD_BLOCK);
+    CHECK(tailsprig_blocks(too_long, sizeof too_long).code == -TAILSPRIG_BAD_BLOCK);
+    CHECK(tailsprig_blocks(no_provider, sizeof no_provider).code == -TAILSPRIG_BAD_BLOCK);
+    CHECK(tailsprig_blocks(provider_too_long, sizeof provider_too_long).code == -TAILSPRIG_BAD_BLOCK);
+
+    CHECK(is_first(tailsprig_block_of(BLOCKS, sizeof BLOCKS, 0)) && is_second(tailsprig_block_of(BLOCKS, sizeof BLOCKS, 1)));
+    CHECK(is_no_block(tailsprig_block_of(BLOCKS, sizeof BLOCKS, 2)) && is_no_block(tailsprig_block_of(BLOCKS, sizeof BLOCKS, SIZE_MAX)));
+    CHECK(is_first(tailsprig_block_at(BLOCKS, sizeof BLOCKS, 0)) && is_second(tailsprig_block_at(BLOCKS, sizeof BLOCKS, 8)));
+    CHECK(is_no_block(tailsprig_block_at(BLOCKS, sizeof BLOCKS, 11)) && is_no_block(tailsprig_block_at(BLOCKS, sizeof BLOCKS, SIZE_MAX)));
+
+    /* The last block is cut short: no number has a block, and the first place still has one. */
+    CHECK(is_no_block(tailsprig_block_of(BLOCKS, sizeof BLOCKS - 1, 0)) && is_first(tailsprig_block_at(BLOCKS, sizeof BLOCKS - 1, 0)));
+}
+
+/* What the field of a CM is refused with, whose octet at a place is another. */
+static int32_t refused_with(size_t place, uint8_t octet)
+{
+    uint8_t heard[sizeof FIELD_CM], out[TAILSPRIG_FIELD_MOST];
+
+    memcpy(heard, FIELD_CM, sizeof heard);
+    heard[place] = octet;
+    return tailsprig_fields(heard, sizeof heard, out, sizeof out);
+}
+
+static void fields(void)
+{
+    uint8_t heard[TAILSPRIG_MOST_OCTETS + 1] = {0xC1, 0x0F, 0x15, 0x51, 0x55, 0x11}, out[TAILSPRIG_FIELD_MOST + 1];
+
+    memset(out, 7, sizeof out);
+    CHECK(tailsprig_fields(CM, sizeof CM, out, 0) == 0);
+    CHECK(tailsprig_fields(FIELD_CM, sizeof FIELD_CM, out, sizeof BLOCKS - 1) == -TAILSPRIG_SHORT_BUFFER && out[0] == 7);
+    CHECK(tailsprig_fields(FIELD_CM, sizeof FIELD_CM, out, sizeof BLOCKS) == (int32_t)sizeof BLOCKS);
+    CHECK(memcmp(out, BLOCKS, sizeof BLOCKS) == 0 && out[sizeof BLOCKS] == 7);
+    CHECK(tailsprig_fields(FIELD_CM, 6, out, 0) == 0);
+    CHECK(refused_with(0, 0xC2) == -TAILSPRIG_NO_CALL_FUNCTION);
+    CHECK(refused_with(3, 0x98) == -TAILSPRIG_BAD_OCTET);
+    CHECK(refused_with(5, 0x2F) == -TAILSPRIG_BAD_PACKING);
+    CHECK(refused_with(sizeof FIELD_CM - 1, 0x90) == -TAILSPRIG_BAD_PACKING);
+    CHECK(refused_with(6, 0x10) == -TAILSPRIG_BAD_BLOCK);
+    CHECK(tailsprig_fields(FIELD_CM, 7, out, sizeof out) == -TAILSPRIG_BAD_PACKING);
+
+    /* A block of 38 octets in 61 extension octets, which is as many as a field has: with one more, six bits are left over. */
+    memset(heard + 6, 0x10, sizeof heard - 6);
+    CHECK(tailsprig_fields(heard, 63, out, TAILSPRIG_FIELD_MOST) == TAILSPRIG_FIELD_MOST && is_span(tailsprig_block_at(out, 38, 0).rest, 3, 35));
+    CHECK(tailsprig_fields(heard, TAILSPRIG_MOST_OCTETS, out, sizeof out) == -TAILSPRIG_BAD_PACKING);
+    CHECK(tailsprig_fields(heard, sizeof heard, out, sizeof out) == -TAILSPRIG_TOO_MANY_OCTETS);
 }
 
 /* A record with one function. */
@@ -461,7 +571,44 @@ static bool makes_cm(struct tailsprig_record own, uint8_t function, const uint8_
 {
     uint8_t made[TAILSPRIG_MENU_MOST];
 
-    return tailsprig_cm(own, function, made, sizeof made) == (int32_t)len && memcmp(made, menu, len) == 0;
+    return tailsprig_cm(own, function, NOTHING, 0, made, sizeof made) == (int32_t)len && memcmp(made, menu, len) == 0;
+}
+
+/* What a CM for data answers with a field of so many octets, which are one block; in a buffer of so many. */
+static int32_t with_field(struct tailsprig_record own, size_t octets, size_t room)
+{
+    uint8_t block[TAILSPRIG_FIELD_MOST] = {(uint8_t)(octets - 1), 0xB5}, made[TAILSPRIG_MENU_MOST];
+
+    return tailsprig_cm(own, TAILSPRIG_FUNCTION_DATA, block, octets, made, room);
+}
+
+static void own_fields(void)
+{
+    struct tailsprig_record own = {.functions[5] = {.available = 1, .items = TAILSPRIG_V34 | TAILSPRIG_V32BIS | TAILSPRIG_V22BIS | TAILSPRIG_V21},
+                                   .home = TAILSPRIG_FUNCTION_DATA,
+                                   .lapm = 1};
+    uint8_t made[TAILSPRIG_MENU_MOST], jm[TAILSPRIG_MENU_MOST];
+
+    memset(made, 7, sizeof made);
+    CHECK(tailsprig_cm(own, TAILSPRIG_FUNCTION_DATA, BLOCKS, sizeof BLOCKS, made, sizeof FIELD_CM - 1) == -TAILSPRIG_SHORT_BUFFER);
+    CHECK(tailsprig_cm(own, TAILSPRIG_FUNCTION_DATA, BLOCKS, sizeof BLOCKS - 1, made, sizeof made) == -TAILSPRIG_BAD_BLOCK && made[0] == 7);
+    CHECK(tailsprig_cm(own, TAILSPRIG_FUNCTION_DATA, BLOCKS, sizeof BLOCKS, made, sizeof FIELD_CM) == (int32_t)sizeof FIELD_CM);
+    CHECK(memcmp(made, FIELD_CM, sizeof FIELD_CM) == 0 && made[sizeof FIELD_CM] == 7);
+    CHECK(tailsprig_cm(own, TAILSPRIG_FUNCTION_FAX_SENT, BLOCKS, sizeof BLOCKS, made, sizeof made) == -TAILSPRIG_NO_CALL_FUNCTION);
+
+    /* JM has none, and is that for the CM without one. */
+    CHECK(tailsprig_jm(own, FIELD_CM, sizeof FIELD_CM, made, sizeof made) == 5 && tailsprig_jm(own, CM, sizeof CM, jm, sizeof jm) == 5);
+    CHECK(memcmp(made, jm, 5) == 0 && tailsprig_find(made, 5, TAILSPRIG_TAG_FIELD) == TAILSPRIG_NOWHERE);
+
+    /* 36 octets where CM has 4 or 5 octets without them, 35 where it has 6 or 7. */
+    CHECK(with_field(own, 36, 64) == 64 && with_field(own, 36, 63) == -TAILSPRIG_SHORT_BUFFER);
+    CHECK(with_field(own, 37, 64) == -TAILSPRIG_TOO_MANY_OCTETS);
+    own.access = 1;
+    CHECK(with_field(own, 35, 64) == 63 && with_field(own, 36, 64) == -TAILSPRIG_TOO_MANY_OCTETS);
+    own.functions[5].pcm = TAILSPRIG_PCM_ANALOGUE;
+    CHECK(with_field(own, 35, 64) == 64 && with_field(own, 36, 64) == -TAILSPRIG_TOO_MANY_OCTETS);
+    own.lapm = 0;
+    CHECK(with_field(own, 35, 64) == 63 && with_field(own, 36, 64) == -TAILSPRIG_TOO_MANY_OCTETS);
 }
 
 static bool makes_jm(struct tailsprig_record own, const uint8_t *heard, size_t heard_len, const uint8_t *menu, size_t len)
@@ -483,14 +630,14 @@ static void records(void)
     uint8_t made[TAILSPRIG_MENU_MOST];
 
     CHECK(makes_cm(own, TAILSPRIG_FUNCTION_FAX_SENT, fax, sizeof fax));
-    CHECK(tailsprig_cm(own, TAILSPRIG_FUNCTION_DATA, made, sizeof made) == -TAILSPRIG_NO_CALL_FUNCTION);
-    CHECK(tailsprig_cm(own, TAILSPRIG_FUNCTION_FAX_SENT, made, 3) == -TAILSPRIG_SHORT_BUFFER);
+    CHECK(tailsprig_cm(own, TAILSPRIG_FUNCTION_DATA, NOTHING, 0, made, sizeof made) == -TAILSPRIG_NO_CALL_FUNCTION);
+    CHECK(tailsprig_cm(own, TAILSPRIG_FUNCTION_FAX_SENT, NOTHING, 0, made, 3) == -TAILSPRIG_SHORT_BUFFER);
     own.home = TAILSPRIG_FUNCTION_DATA;
-    CHECK(tailsprig_cm(own, TAILSPRIG_FUNCTION_FAX_SENT, made, sizeof made) == -TAILSPRIG_BAD_RECORD);
+    CHECK(tailsprig_cm(own, TAILSPRIG_FUNCTION_FAX_SENT, NOTHING, 0, made, sizeof made) == -TAILSPRIG_BAD_RECORD);
     own = with_function(TAILSPRIG_FUNCTION_DATA, 0, TAILSPRIG_WITH_PCM);
-    CHECK(tailsprig_cm(own, TAILSPRIG_FUNCTION_DATA, made, sizeof made) == -TAILSPRIG_BAD_RECORD);
+    CHECK(tailsprig_cm(own, TAILSPRIG_FUNCTION_DATA, NOTHING, 0, made, sizeof made) == -TAILSPRIG_BAD_RECORD);
     own = with_function(TAILSPRIG_FUNCTION_DATA, TAILSPRIG_PCM_ANALOGUE, TAILSPRIG_V32BIS);
-    CHECK(tailsprig_cm(own, TAILSPRIG_FUNCTION_DATA, made, sizeof made) == -TAILSPRIG_BAD_RECORD);
+    CHECK(tailsprig_cm(own, TAILSPRIG_FUNCTION_DATA, NOTHING, 0, made, sizeof made) == -TAILSPRIG_BAD_RECORD);
 
     /* What each number of a record brings into a CM. */
     base = with_function(TAILSPRIG_FUNCTION_DATA, 0, no_pcm);
@@ -511,7 +658,7 @@ static void records(void)
     CHECK(makes_cm(own, TAILSPRIG_FUNCTION_DATA, PCM_CM, sizeof PCM_CM));
     own.functions[TAILSPRIG_FUNCTION_DATA - 1].pcm = TAILSPRIG_PCM_ANALOGUE | TAILSPRIG_PCM_DIGITAL | TAILSPRIG_PCM_V91;
     own.lapm = own.access = own.cellular = own.digital = 1;
-    CHECK(makes_cm(own, TAILSPRIG_FUNCTION_DATA, most, sizeof most) && sizeof most == TAILSPRIG_MENU_MOST);
+    CHECK(makes_cm(own, TAILSPRIG_FUNCTION_DATA, most, sizeof most));
 
     CHECK(makes_jm(base, CM, sizeof CM, JM, sizeof JM));
     CHECK(tailsprig_jm(base, CM, 0, made, sizeof made) == -TAILSPRIG_NO_CALL_FUNCTION);
@@ -703,7 +850,10 @@ int main(void)
     writing();
     listening();
     menus();
+    blocks();
+    fields();
     records();
+    own_fields();
     choice();
     the_caller();
     the_answerer();

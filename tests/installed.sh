@@ -29,9 +29,9 @@ prints_the_same() {
     cmp -s "$work/expected" "$work/printed" || fail "$name: prints something else"
 }
 
-# needs_the_library FILE: a program that looks for the shared library when it starts.
+# needs_the_library FILE: a program that looks for the shared library when it starts, by the first two numbers of the version and no others.
 needs_the_library() {
-    grep -aqF "libtailsprig.so.${version%%.*}" "$1" || fail "$1 does not need the shared library"
+    grep -zaqxF "libtailsprig.so.${version%.*}" "$1" || fail "$1 does not need the shared library of its version"
 }
 
 gcc -std=c11 -Iinclude examples/first.c target/staticlib/libtailsprig.a -o "$work/first" && "$work/first" >"$work/expected" || fail 'run make first'

@@ -120,7 +120,7 @@ fn structs_of_the_header() -> Structs {
 #[test]
 fn the_structs_are_those_of_the_sources() {
     let declared = declared();
-    assert_eq!(declared.len(), 11, "{:?}", declared.keys());
+    assert_eq!(declared.len(), 14, "{:?}", declared.keys());
     assert_eq!(structs_of_the_header(), declared, "include/tailsprig.h");
     assert_eq!(structs_of(&read("host/src/lib.rs")), declared, "host/src/lib.rs");
 }
@@ -230,7 +230,7 @@ fn as_c_passes((name, ty): &Named) -> Vec<Named> {
 fn the_functions_are_those_of_the_sources() {
     let header = functions_of_the_header();
     let declared = functions_of(&source("tailsprig"));
-    assert_eq!(declared.len(), 16, "{:?}", declared.keys());
+    assert_eq!(declared.len(), 20, "{:?}", declared.keys());
     assert_eq!(header, functions_of(read("host/src/lib.rs").split("extern \"C\"").nth(1).expect("declarations")));
     assert!(header.keys().eq(declared.keys()), "{:?}", header.keys());
     for (name, (parameters, answer)) in &declared {
@@ -324,16 +324,19 @@ fn the_numbers_are_those_of_the_sources() {
         ("menus", "PCM", "TAG_PCM"),
         ("menus", "PROTOCOL", "TAG_PROTOCOL"),
         ("menus", "ACCESS", "TAG_ACCESS"),
+        ("fields", "FIELD", "TAG_FIELD"),
         ("octets", "MOST_OCTETS", "MOST_OCTETS"),
         ("sequences", "FRAME", "OCTET_BITS"),
         ("sequences", "CJ_BITS", "CJ_BITS"),
-        ("offers", "LONGEST_MENU", "MENU_MOST"),
         ("codes", "NOWHERE", "NOWHERE"),
         ("steps", "LEAST_TE", "TE_TEXTPHONE"),
     ] {
         assert_eq!(number(in_header), constant(krate, name), "{in_header}");
     }
     assert_eq!(number("MOST_BITS"), constant("sequences", "PREAMBLE") + number("OCTET_BITS") * number("MOST_OCTETS"));
+    assert_eq!(number("MENU_MOST"), number("MOST_OCTETS"));
+    // Five bits an octet, but for the call function octet and the field's own category octet.
+    assert_eq!(number("FIELD_MOST"), (number("MOST_OCTETS") - 2) * 5 / 8);
 }
 
 /// A number as the manual writes it.
@@ -401,7 +404,7 @@ fn the_refusals_are_those_of_the_sources() {
         .filter_map(|line| line.trim().strip_prefix("Refusal::")?.strip_suffix(',')?.split_once(" => "))
         .map(|(name, number)| (c_name(name).to_uppercase(), number.parse().expect("a number")))
         .collect();
-    assert_eq!(declared.len(), 13);
+    assert_eq!(declared.len(), 15);
     assert_eq!(numbers_of("tailsprig_refusal", &Numbers::new()), declared);
 }
 
