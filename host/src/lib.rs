@@ -59,6 +59,30 @@ pub mod c {
         pub code: i32,
     }
 
+    /// A part of lent octets.
+    #[derive(Clone, Copy, Debug, Default, PartialEq, Eq)]
+    #[repr(C)]
+    pub struct Span {
+        pub place: usize,
+        pub size: usize,
+    }
+
+    #[derive(Clone, Copy, Debug, Default, PartialEq, Eq)]
+    #[repr(C)]
+    pub struct Block {
+        pub whole: Span,
+        pub country: Span,
+        pub provider: Span,
+        pub rest: Span,
+    }
+
+    #[derive(Clone, Copy, Debug, PartialEq, Eq)]
+    #[repr(C)]
+    pub struct BlocksRead {
+        pub blocks: usize,
+        pub code: i32,
+    }
+
     /// What an end has for one call function.
     #[derive(Clone, Copy, Debug, Default, PartialEq, Eq)]
     #[repr(C)]
@@ -121,7 +145,18 @@ pub mod c {
         pub fn tailsprig_find(octets: *const u8, octets_len: usize, tag: u8) -> i32;
         pub fn tailsprig_part(octets: *const u8, octets_len: usize, place: usize) -> usize;
         pub fn tailsprig_read(octets: *const u8, octets_len: usize) -> MenuRead;
-        pub fn tailsprig_cm(own: Record, function: u8, out: *mut u8, out_len: usize) -> i32;
+        pub fn tailsprig_fields(octets: *const u8, octets_len: usize, out: *mut u8, out_len: usize) -> i32;
+        pub fn tailsprig_blocks(octets: *const u8, octets_len: usize) -> BlocksRead;
+        pub fn tailsprig_block_of(octets: *const u8, octets_len: usize, number: usize) -> Block;
+        pub fn tailsprig_block_at(octets: *const u8, octets_len: usize, place: usize) -> Block;
+        pub fn tailsprig_cm(
+            own: Record,
+            function: u8,
+            blocks: *const u8,
+            blocks_len: usize,
+            out: *mut u8,
+            out_len: usize,
+        ) -> i32;
         pub fn tailsprig_jm(
             own: Record,
             heard: *const u8,
@@ -144,7 +179,7 @@ pub mod c {
     }
 }
 
-/// A refusal's number, 1 to 13.
+/// A refusal's number, 1 to 15.
 #[derive(Clone, Copy, Debug, PartialEq, Eq)]
 pub struct Refusal(pub u8);
 
@@ -258,10 +293,61 @@ pub fn read(octets: &[u8]) -> Result<c::Offer, Refusal> {
     count(menu.code).map(|_| menu.offer)
 }
 
-/// Makes the CM of a record for a function into `out`, and answers how many octets it has.
-pub fn cm(own: &c::Record, function: u8, out: &mut [u8]) -> Result<usize, Refusal> {
-    // SAFETY: the record goes by value; the slice is lent for the call alone, with its length.
-    count(unsafe { c::tailsprig_cm(*own, function, out.as_mut_ptr(), out.len()) })
+/// Reads the field of a heard CM into `out`, and answers how many octets it has.
+pub fn fields(octets: &[u8], out: &mut [u8]) -> Result<usize, Refusal> {
+    // SAFETY: as for `write`.
+    count(unsafe { c::tailsprig_fields(octets.as_ptr(), octets.len(), out.as_mut_ptr(), out.len()) })
+}
+
+/// A block of a field: its parts of the lent octets.
+#[derive(Clone, Copy, Debug, PartialEq, Eq)]
+pub struct Block<'a> {
+    /// With its length octet.
+    pub whole: &'a [u8],
+    pub country: &'a [u8],
+    /// Without its length octet.
+    pub provider: &'a [u8],
+    pub rest: &'a [u8],
+}
+
+impl<'a> Block<'a> {
+    /// The block that the numbers stand for, if they stand for one.
+    fn of(octets: &'a [u8], block: c::Block) -> Option<Self> {
+        let part = |span: c::Span| &octets[span.place..][..span.size];
+        (block != c::Block::default()).then(|| Block {
+            whole: part(block.whole),
+            country: part(block.country),
+            provider: part(block.provider),
+            rest: part(block.rest),
+        })
+    }
+}
+
+/// How many blocks the octets of a field are.
+pub fn blocks(octets: &[u8]) -> Result<usize, Refusal> {
+    // SAFETY: as for `find`.
+    let read = unsafe { c::tailsprig_blocks(octets.as_ptr(), octets.len()) };
+    count(read.code).map(|_| read.blocks)
+}
+
+/// The block of a number, counted from 0, where all blocks are good ones.
+pub fn block_of(octets: &[u8], number: usize) -> Option<Block<'_>> {
+    // SAFETY: as for `find`.
+    Block::of(octets, unsafe { c::tailsprig_block_of(octets.as_ptr(), octets.len(), number) })
+}
+
+/// The block that begins at a place, where a good one does.
+pub fn block_at(octets: &[u8], place: usize) -> Option<Block<'_>> {
+    // SAFETY: as for `find`.
+    Block::of(octets, unsafe { c::tailsprig_block_at(octets.as_ptr(), octets.len(), place) })
+}
+
+/// Makes the CM of a record for a function into `out`, with our own blocks as its field, and answers how many octets it has.
+pub fn cm(own: &c::Record, function: u8, blocks: &[u8], out: &mut [u8]) -> Result<usize, Refusal> {
+    // SAFETY: the record goes by value; both slices are lent for the call alone, with their lengths.
+    count(unsafe {
+        c::tailsprig_cm(*own, function, blocks.as_ptr(), blocks.len(), out.as_mut_ptr(), out.len())
+    })
 }
 
 /// Makes the JM of a record for a heard CM into `out`, and answers how many octets it has.

@@ -3,11 +3,12 @@
 //! Where the pages leave room it follows `docs/DECISIONS.md`, as the library does: a comparison of the two tells whether both keep to
 //! the pages as they are read there, and not whether that reading is right.
 //!
-//! The modules follow the sections of document 01. What a comment has in double quotes is the text of a page, of document 01 where no
-//! request is named.
+//! The modules follow the sections of document 01, and `fields` is request 02. What a comment has in double quotes is the text of a page,
+//! of document 01 where no request is named.
 
 mod bits;
 mod choice;
+mod fields;
 mod listening;
 mod octets;
 mod records;
@@ -15,6 +16,7 @@ mod steps;
 
 pub use bits::Kind;
 pub use choice::Choice;
+pub use fields::Block;
 pub use listening::{Listener, Message, Place, Report};
 pub use octets::{Access, Menu, Pcm};
 pub use records::{Function, Record, Source};
@@ -75,11 +77,41 @@ pub enum Mistake {
     ClockFirst,
     /// Te is 500 without a value, as it was before request 01.
     DefaultTe500,
+    /// The joined bits of an octet come with the lowest last.
+    LowestBitLast,
+    /// Five bits may be left over.
+    FiveLeftOver,
+    /// Bits that are left over may be 1.
+    AnyLeftOver,
+    /// The options of the field's category octet are not looked at.
+    AnyOptions,
+    /// The length of a block counts itself.
+    LengthCountsItself,
+    /// A country code ends at an octet of 255 too.
+    CountryEndsAt255,
+    /// A provider code may run into the next block.
+    ProviderRunsOn,
+    /// The walk stops behind the first block.
+    OneBlock,
+    /// The second tag 15 group is read.
+    SecondField,
+    /// The field stands before the access group.
+    FieldBeforeAccess,
+    /// No octets make a category octet alone.
+    LoneCategory,
+    /// The field does not count towards the 64 octets of a CM.
+    FieldNotCounted,
+    /// In making a CM 14 comes before 4.
+    BlocksBeforeSize,
+    /// In reading 14 comes before 15.
+    BlocksBeforePacking,
+    /// JM carries the field of CM.
+    JmWithField,
 }
 
 impl Mistake {
     /// Every mistake with the name that it is asked for by.
-    pub const ALL: [(&str, Mistake); 15] = [
+    pub const ALL: [(&str, Mistake); 30] = [
         ("room-for-one", Mistake::RoomForOne),
         ("nine-ones", Mistake::NineOnes),
         ("octet-55", Mistake::Octet55),
@@ -95,5 +127,20 @@ impl Mistake {
         ("more-than", Mistake::MoreThan),
         ("clock-first", Mistake::ClockFirst),
         ("default-te-500", Mistake::DefaultTe500),
+        ("lowest-bit-last", Mistake::LowestBitLast),
+        ("five-left-over", Mistake::FiveLeftOver),
+        ("any-left-over", Mistake::AnyLeftOver),
+        ("any-options", Mistake::AnyOptions),
+        ("length-counts-itself", Mistake::LengthCountsItself),
+        ("country-ends-at-255", Mistake::CountryEndsAt255),
+        ("provider-runs-on", Mistake::ProviderRunsOn),
+        ("one-block", Mistake::OneBlock),
+        ("second-field", Mistake::SecondField),
+        ("field-before-access", Mistake::FieldBeforeAccess),
+        ("lone-category", Mistake::LoneCategory),
+        ("field-not-counted", Mistake::FieldNotCounted),
+        ("blocks-before-size", Mistake::BlocksBeforeSize),
+        ("blocks-before-packing", Mistake::BlocksBeforePacking),
+        ("jm-with-field", Mistake::JmWithField),
     ];
 }

@@ -2,10 +2,11 @@
 use crate::{
     c,
     model::{
-        Answer, Choice, End, Ended, Event, Function, Kind, Listener, Menu, Message, Place, Record, Refusal, Report,
+        Answer, Block, Choice, End, Ended, Event, Function, Kind, Listener, Menu, Message, Place, Record, Refusal, Report,
     },
     model::{Session, Source, State},
 };
+use std::ops::Range;
 
 /// The kind that a number stands for, if it stands for one.
 pub fn kind(number: u8) -> Option<Kind> {
@@ -91,6 +92,25 @@ pub fn menu_read(answer: Result<Menu, Refusal>) -> c::MenuRead {
             code: refused(refusal),
         },
     }
+}
+
+/// How many blocks there are, or 0 beside the refusal.
+pub fn blocks_read(answer: Result<Vec<Block>, Refusal>) -> c::BlocksRead {
+    match answer {
+        Ok(blocks) => c::BlocksRead { blocks: blocks.len(), code: 0 },
+        Err(refusal) => c::BlocksRead { blocks: 0, code: refused(refusal) },
+    }
+}
+
+/// A block by its parts, or numbers that are all 0 where there is none.
+pub fn block(answer: Option<Block>) -> c::Block {
+    let span = |part: Range<usize>| c::Span { place: part.start, size: part.len() };
+    answer.map_or(c::Block::default(), |block| c::Block {
+        whole: span(block.whole),
+        country: span(block.country),
+        provider: span(block.provider),
+        rest: span(block.rest),
+    })
 }
 
 /// The record that the numbers stand for. "A record is bad, and refused with 10, if one of these numbers is neither" 1 nor 0.

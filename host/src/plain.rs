@@ -1,8 +1,10 @@
 //! The same rules in plain Rust: what the benchmark measures the proved library against.
+mod fields;
 mod listener;
 mod steps;
 
 use crate::{Kind, Refusal};
+pub use fields::{block_at, cm, fields};
 pub use listener::{listing, Listener};
 pub use steps::step;
 

@@ -1,4 +1,4 @@
-//! The texts of the vector files: octets, bits, records, refusals and reports.
+//! The texts of the vector files: octets, bits, records, blocks, refusals and reports.
 use crate::{
     c::{Modes, Record},
     steps::{Answer, Event, State},
@@ -85,6 +85,24 @@ pub fn show_octets(octets: &[u8]) -> String {
     octets.iter().map(|octet| format!("{octet:02X}")).collect::<Vec<_>>().join(" ")
 }
 
+/// Octets joined by `.`, where several lists stand in one field; `-` where there are none.
+pub fn show_joined(octets: &[u8]) -> String {
+    show_octets(octets).replace(' ', ".")
+}
+
+/// A block: `COUNTRY/PROVIDER/REST`.
+pub fn show_block(country: &[u8], provider: &[u8], rest: &[u8]) -> String {
+    [country, provider, rest].map(show_joined).join("/")
+}
+
+/// Blocks that are shown, single spaces between; `-` where there are none.
+pub fn show_blocks(blocks: &[String]) -> String {
+    if blocks.is_empty() {
+        return "-".to_string();
+    }
+    blocks.join(" ")
+}
+
 /// `R` and the number.
 pub fn show_refusal(refusal: Refusal) -> String {
     format!("R{}", refusal.0)
@@ -118,9 +136,7 @@ impl Reports {
             Report::Cj => ("CJ".to_string(), &[][..], ""),
             Report::Refused(refusal) => (show_refusal(refusal), &[][..], ""),
         };
-        let octets: Vec<String> = octets.iter().map(|octet| format!("{octet:02X}")).collect();
-        let octets = if octets.is_empty() { "-".to_string() } else { octets.join(".") };
-        self.shown.push(format!("{}:{what}:{octets}{agreed}", self.heard - 1));
+        self.shown.push(format!("{}:{what}:{}{agreed}", self.heard - 1, show_joined(octets)));
         // A byte that is no bit was taken and not heard.
         self.heard -= usize::from(report == Report::Refused(Refusal(1)));
     }

@@ -7,8 +7,8 @@ fn differ(words: &[&str]) -> Output {
     Command::new(env!("CARGO_BIN_EXE_differ")).args(words).output().expect("differ can be run")
 }
 
-/// Every call, and every answer that the header names for it; a count or a place is told as 0.
-const ANSWERS: [(&str, &str); 15] = [
+/// Every call, and every answer that the header names for it; a count or a place is told as 0, a block as 1 and none as 0.
+const ANSWERS: [(&str, &str); 19] = [
     ("write", "-12 -10 -6 -5 -4 -3 0"),
     ("write_cj", "-6 0"),
     ("fresh and hear", "-13 -10 -4 -3 -2 -1 0 1 2 3 4"),
@@ -16,7 +16,11 @@ const ANSWERS: [(&str, &str); 15] = [
     ("find", "-5 -4 -3 0 64"),
     ("part", "0"),
     ("read", "-5 -4 -3 0"),
-    ("cm", "-10 -6 -5 0"),
+    ("fields", "-15 -14 -6 -5 -4 -3 0"),
+    ("blocks", "-14 0"),
+    ("block_of", "0 1"),
+    ("block_at", "0 1"),
+    ("cm", "-14 -10 -6 -5 -4 0"),
     ("jm", "-10 -6 -5 -4 -3 0"),
     ("call_function", "0 1 2"),
     ("choice", "-11 -5 -4 -3 0 1 2 3 4 5 6 7 8 9 10 11 12 17 18 19 20 21 22 23"),

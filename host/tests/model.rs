@@ -1,7 +1,9 @@
-//! The model of document 01 gives the answers of the vectors, on its own: what the library is compared with is anchored itself.
+//! The model of the documents gives the answers of the vectors, on its own: what the library is compared with is anchored itself.
 use std::{fs, path::PathBuf};
 use tailsprig::{
-    model::{Answer, Choice, Ended, Event, Kind, Listener, Model, Record, Refusal, Report, Session, Source, State},
+    model::{
+        Answer, Block, Choice, Ended, Event, Kind, Listener, Model, Record, Refusal, Report, Session, Source, State,
+    },
     numbers, steps, text,
 };
 
@@ -60,10 +62,7 @@ fn the_model_hears_as_the_vectors_say() {
         for bit in text::line(&row[0]) {
             let before = line.heard.len();
             let report = Model::default().hear(&mut line, bit);
-            let joined = || match line.octets() {
-                [] => "-".to_string(),
-                octets => text::show_octets(octets).replace(' ', "."),
-            };
+            let joined = || text::show_joined(line.octets());
             reports.push(match report {
                 Ok(Report::Nothing) => continue,
                 Ok(Report::Ci) => format!("{before}:CI:{}", joined()),
@@ -107,11 +106,35 @@ fn the_model_reads_as_the_vectors_say() {
     });
 }
 
+/// Blocks as the vectors show them.
+fn show_blocks(octets: &[u8], blocks: Vec<Block>) -> String {
+    let shown: Vec<String> = blocks
+        .into_iter()
+        .map(|block| text::show_block(&octets[block.country], &octets[block.provider], &octets[block.rest]))
+        .collect();
+    text::show_blocks(&shown)
+}
+
+#[test]
+fn the_model_reads_fields_as_the_vectors_say() {
+    let model = Model::default();
+    replay("fields.tsv", |row| {
+        shown(model.fields(&octets(&row[0]), number(&row[1])), |joined| {
+            let blocks = model.blocks(&joined).expect("blocks that were tested");
+            format!("joined {} blocks {}", text::show_joined(&joined), show_blocks(&joined, blocks))
+        })
+    });
+    replay("blocks.tsv", |row| {
+        let octets = octets(&row[0]);
+        shown(model.blocks(&octets), |blocks| show_blocks(&octets, blocks))
+    });
+}
+
 #[test]
 fn the_model_makes_menus_as_the_vectors_say() {
     let model = Model::default();
     replay("cm.tsv", |row| {
-        let made = model.cm(&record(&row[0]), number(&row[1]), number(&row[2]));
+        let made = model.cm(&record(&row[0]), number(&row[1]), &octets(&row[2]), number(&row[3]));
         shown(made, |octets| text::show_octets(&octets))
     });
     replay("jm.tsv", |row| {

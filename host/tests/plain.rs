@@ -1,7 +1,7 @@
 //! The plain Rust that the library is timed and compared with keeps to the same vectors and recordings, and answers the same steps.
 use std::{fs, path::PathBuf};
-use tailsprig::c::Session;
-use tailsprig::{c, plain, text};
+use tailsprig::c::{Block, Session, Span};
+use tailsprig::{c, plain, text, Refusal};
 
 fn tests(name: &str) -> PathBuf {
     PathBuf::from(env!("CARGO_MANIFEST_DIR")).join("../tests").join(name)
@@ -52,6 +52,62 @@ fn plain_listing_prints_the_listings_of_the_recordings() {
         }
     }
     assert!(files > 0, "no recordings");
+}
+
+/// The rows of a vector file, and what the last field of each says must be answered.
+fn compare(name: &str, answer: impl Fn(&[&str]) -> String) {
+    let vectors = fs::read_to_string(tests("vectors").join(name)).expect("the vectors can be read");
+    let mut rows = 0;
+    for line in vectors.lines().skip(1) {
+        let fields: Vec<&str> = line.split('\t').collect();
+        let (expected, row) = fields.split_last().expect("a row has fields");
+        assert_eq!(answer(row), *expected, "{name}: {line}");
+        rows += 1;
+    }
+    assert!(rows > 400, "{rows} rows in {name}");
+}
+
+/// What is written into a buffer of so many bytes, or the refusal with which nothing is.
+fn written(room: &str, show: impl Fn(&[u8]) -> String, call: impl Fn(&mut [u8]) -> Result<usize, Refusal>) -> String {
+    let lent = vec![7; text::number(room).expect("a number")];
+    let mut out = lent.clone();
+    match call(&mut out) {
+        Ok(count) => show(&out[..count]),
+        Err(refusal) => {
+            assert_eq!(out, lent, "{refusal:?}");
+            text::show_refusal(refusal)
+        }
+    }
+}
+
+/// The blocks one behind the other, or refusal 14.
+fn show_blocks(octets: &[u8]) -> String {
+    let part = |span: Span| &octets[span.place..][..span.size];
+    let (mut at, mut shown) = (0, Vec::new());
+    while at < octets.len() {
+        let block = plain::block_at(octets, at);
+        if block == Block::default() {
+            return text::show_refusal(Refusal(14));
+        }
+        shown.push(text::show_block(part(block.country), part(block.provider), part(block.rest)));
+        at += block.whole.size;
+    }
+    text::show_blocks(&shown)
+}
+
+#[test]
+fn plain_fields_and_menus_are_those_of_the_vectors() {
+    let octets = |text: &str| text::octets(text).expect("octets");
+    compare("blocks.tsv", |row| show_blocks(&octets(row[0])));
+    compare("fields.tsv", |row| {
+        let show = |joined: &[u8]| format!("joined {} blocks {}", text::show_joined(joined), show_blocks(joined));
+        written(row[1], show, |out| plain::fields(&octets(row[0]), out))
+    });
+    compare("cm.tsv", |row| {
+        let own = text::record(row[0]).expect("a record");
+        let function = text::number(row[1]).expect("a number");
+        written(row[3], text::show_octets, |out| plain::cm(&own, function, &octets(row[2]), out))
+    });
 }
 
 /// Sessions in their ranges and just outside, each at the entry time 1,000.

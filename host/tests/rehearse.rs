@@ -250,7 +250,7 @@ impl Call {
         let own = &self.ends[end];
         let home = own.functions[usize::from(own.home) - 1].available;
         // Any function will do: that the record is bad comes first.
-        match Model::default().cm(own, own.home, 64) {
+        match Model::default().cm(own, own.home, &[], 64) {
             Err(Refusal(10)) if home => Some(PCM_ALONE),
             Err(Refusal(10)) => Some(HOME_NOT_HAD),
             _ => None,
@@ -259,7 +259,7 @@ impl Call {
 
     /// What is wrong with the function of the call, where the model says that the caller has it not.
     fn wrong_call(&self) -> Option<&'static str> {
-        (Model::default().cm(&self.ends[0], self.function, 64) == Err(Refusal(5))).then_some(CALL_NOT_HAD)
+        (Model::default().cm(&self.ends[0], self.function, &[], 64) == Err(Refusal(5))).then_some(CALL_NOT_HAD)
     }
 
     /// The line that the plain text gets where it is no call.
@@ -272,7 +272,7 @@ impl Call {
     /// CM, JM for it and the choice, as the model makes them of a call that nothing is wrong with.
     fn made(&self) -> (Vec<u8>, Vec<u8>, Choice) {
         let model = Model::default();
-        let cm = model.cm(&self.ends[0], self.function, 64).expect("the caller has the function");
+        let cm = model.cm(&self.ends[0], self.function, &[], 64).expect("the caller has the function");
         let jm = model.jm(&self.ends[1], &cm, 64).expect("a good record answers every CM");
         let choice = model.choice(&cm, &jm).expect("what we answer was offered");
         (cm, jm, choice)

@@ -1,25 +1,42 @@
 //! `replay FILE..`: calls the proved library for each row of the vector files and compares what it answers with the
 //! row's last column. Prints a line for each difference and a last line with the counts; exits with 1 on a difference and
-//! with 2 where a file cannot be read as vectors. A file's header line says what its rows are.
-use std::{env, fs, process::ExitCode};
+//! with 2 where a file cannot be read as vectors. A file's header line says what its rows are, and its name where two kinds of files have
+//! the same header.
+use std::{env, fs, path::Path, process::ExitCode};
 use tailsprig::{steps::Session, text, Choice, Listener, Refusal, Report, Source};
 
 /// What a row's call gives, in the text of its last column.
 type Call = fn(&[&str]) -> Result<String, String>;
 
-/// The header of each kind of file, and the call for its rows.
-const FILES: [(&str, Call); 10] = [
-    ("kind\toctets\tcopies\troom\tanswer", write),
-    ("input\treports", listen),
-    ("octets\ttag\tanswer", find),
-    ("octets\tplace\tanswer", part),
-    ("octets\tanswer", read),
-    ("record\tfunction\troom\tanswer", cm),
-    ("record\theard\troom\tanswer", jm),
-    ("record\theard\town\tanswer", call_function),
-    ("cm\tjm\tanswer", choice),
-    ("end\tstart\tte\tevents\tanswers", steps),
+/// The name and the header of each kind of file, and the call for its rows.
+const FILES: [(&str, &str, Call); 12] = [
+    ("write.tsv", "kind\toctets\tcopies\troom\tanswer", write),
+    ("listen.tsv", "input\treports", listen),
+    ("find.tsv", "octets\ttag\tanswer", find),
+    ("part.tsv", "octets\tplace\tanswer", part),
+    ("read.tsv", "octets\tanswer", read),
+    ("fields.tsv", "octets\troom\tanswer", fields),
+    ("blocks.tsv", "octets\tanswer", blocks),
+    ("cm.tsv", "record\tfunction\tfields\troom\tanswer", cm),
+    ("jm.tsv", "record\theard\troom\tanswer", jm),
+    ("callf.tsv", "record\theard\town\tanswer", call_function),
+    ("choice.tsv", "cm\tjm\tanswer", choice),
+    ("steps.tsv", "end\tstart\tte\tevents\tanswers", steps),
 ];
+
+/// The call for the rows of a file.
+fn call_of(path: &str, header: &str) -> Result<Call, String> {
+    let name = Path::new(path).file_name().unwrap_or_default();
+    let known: Vec<_> = FILES.iter().filter(|(_, known, _)| *known == header).collect();
+    match known.as_slice() {
+        [] => Err(format!("no vectors are known by the header '{header}'")),
+        [(_, _, call)] => Ok(*call),
+        several => match several.iter().find(|(known, _, _)| *known == name) {
+            Some((_, _, call)) => Ok(*call),
+            None => Err(format!("several kinds of vectors have the header '{header}', and none this name")),
+        },
+    }
+}
 
 /// A byte that is no bit, at each place another: what the writer must not touch.
 fn untouched(room: usize) -> Vec<u8> {
@@ -123,10 +140,44 @@ fn read(row: &[&str]) -> Result<String, String> {
     })
 }
 
+fn fields(row: &[&str]) -> Result<String, String> {
+    let heard = text::octets(row[0])?;
+    let show = |joined: &[u8]| format!("joined {} blocks {}", text::show_joined(joined), blocks_in(joined));
+    written(row[1], show, |out| tailsprig::fields(&heard, out))
+}
+
+fn blocks(row: &[&str]) -> Result<String, String> {
+    Ok(blocks_in(&text::octets(row[0])?))
+}
+
+/// The blocks of octets, or their refusal; and whether the block of each number is the one that begins behind those before it.
+fn blocks_in(octets: &[u8]) -> String {
+    let count = match tailsprig::blocks(octets) {
+        Ok(count) => count,
+        Err(refusal) if tailsprig::block_of(octets, 0).is_none() => return text::show_refusal(refusal),
+        Err(refusal) => return format!("{}, and a first block", text::show_refusal(refusal)),
+    };
+    let (mut at, mut shown) = (0, Vec::new());
+    for number in 0..count {
+        match (tailsprig::block_of(octets, number), tailsprig::block_at(octets, at)) {
+            (Some(block), Some(same)) if block == same => {
+                shown.push(text::show_block(block.country, block.provider, block.rest));
+                at += block.whole.len();
+            }
+            (numbered, placed) => return format!("block {number} is {numbered:?}, and {placed:?} begins at {at}"),
+        }
+    }
+    if at != octets.len() || tailsprig::block_of(octets, count).is_some() || tailsprig::block_at(octets, at).is_some() {
+        return format!("{count} blocks, and more than these");
+    }
+    text::show_blocks(&shown)
+}
+
 fn cm(row: &[&str]) -> Result<String, String> {
     let own = text::record(row[0])?;
     let function = text::number(row[1])?;
-    written(row[2], text::show_octets, |out| tailsprig::cm(&own, function, out))
+    let blocks = text::octets(row[2])?;
+    written(row[3], text::show_octets, |out| tailsprig::cm(&own, function, &blocks, out))
 }
 
 fn jm(row: &[&str]) -> Result<String, String> {
@@ -198,8 +249,9 @@ fn replay(path: &str, tally: &mut Tally) {
     };
     let mut lines = content.lines();
     let header = lines.next().unwrap_or("");
-    let Some((_, call)) = FILES.iter().find(|(known, _)| *known == header) else {
-        return unread(format!("no vectors are known by the header '{header}'"));
+    let call = match call_of(path, header) {
+        Ok(call) => call,
+        Err(why) => return unread(why),
     };
     for (index, line) in lines.enumerate() {
         let number = index + 2;

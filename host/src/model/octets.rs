@@ -21,7 +21,7 @@ pub(super) const ITEMS: [(usize, u8); 13] =
     [(0, 5), (0, 6), (0, 7), (1, 0), (1, 1), (1, 2), (1, 6), (1, 7), (2, 0), (2, 1), (2, 2), (2, 6), (2, 7)];
 
 /// "b5 to b7 as a number, b5 lowest".
-fn options(octet: u8) -> u8 {
+pub(super) fn options(octet: u8) -> u8 {
     octet / 32
 }
 
@@ -76,7 +76,7 @@ pub struct Menu {
 }
 
 /// "reading or writing octets 4, 5, then at the first bad octet 3".
-fn readable(octets: &[u8]) -> Result<(), Refusal> {
+pub(super) fn readable(octets: &[u8]) -> Result<(), Refusal> {
     begins_well(octets)?;
     if octets.iter().any(|&octet| is_bad(octet)) {
         return Err(Refusal(3));
@@ -92,7 +92,7 @@ impl Model {
         Ok(self.place(octets, sought))
     }
 
-    fn place(&self, octets: &[u8], sought: u8) -> Option<usize> {
+    pub(super) fn place(&self, octets: &[u8], sought: u8) -> Option<usize> {
         let begins = |&octet: &u8| is_category(octet) && tag(octet) == sought;
         if self.makes(Mistake::LastGroup) {
             return octets.iter().rposition(begins);
@@ -114,7 +114,7 @@ impl Model {
     }
 
     /// "The first group of a tag counts."
-    fn group<'a>(&self, octets: &'a [u8], sought: u8) -> Option<&'a [u8]> {
+    pub(super) fn group<'a>(&self, octets: &'a [u8], sought: u8) -> Option<&'a [u8]> {
         Some(self.part(octets, self.place(octets, sought)?))
     }
 

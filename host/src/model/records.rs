@@ -1,5 +1,7 @@
 //! "Menus we make": the record of an end, CM, JM and the call function octet.
 use super::{
+    bits::MOST_OCTETS,
+    fields::FIELD,
     octets::{ACCESS, CALL_FUNCTION, ITEMS, LAPM, MODULATION, PCM, PROTOCOL},
     Access, Menu, Mistake, Model, Pcm, Refusal,
 };
@@ -56,7 +58,7 @@ pub enum Source {
 }
 
 /// A category octet: the tag in b0 to b3, the options in b5 to b7.
-fn category(tag: u8, options: u8) -> u8 {
+pub(super) fn category(tag: u8, options: u8) -> u8 {
     tag + 32 * options
 }
 
@@ -86,7 +88,7 @@ fn made(menu: &Menu) -> Vec<u8> {
 }
 
 /// The octets that go to the start of a lent buffer of so many bytes, or refusal 6: "lent buffer too short".
-fn fitting(octets: Vec<u8>, room: usize) -> Result<Vec<u8>, Refusal> {
+pub(super) fn fitting(octets: Vec<u8>, room: usize) -> Result<Vec<u8>, Refusal> {
     if room < octets.len() {
         return Err(Refusal(6));
     }
@@ -95,8 +97,9 @@ fn fitting(octets: Vec<u8>, room: usize) -> Result<Vec<u8>, Refusal> {
 
 impl Model {
     /// "CM for an available function: its items; PCM if its options aren't 0, with item 0 then set; LAPM if wanted; access if wanted
-    /// or PCM is there, b5 cellular, b6 0, b7 digital." Order: 10, 5, 6.
-    pub fn cm(&self, own: &Record, function: u8, room: usize) -> Result<Vec<u8>, Refusal> {
+    /// or PCM is there, b5 cellular, b6 0, b7 digital." Request 02: "The field stands last in CM"; its octets are those of our own
+    /// blocks. Order: "in making a CM 10, 5, 4, 14, 6".
+    pub fn cm(&self, own: &Record, function: u8, blocks: &[u8], room: usize) -> Result<Vec<u8>, Refusal> {
         own.tested()?;
         let ours = own.available(function).ok_or(Refusal(5))?;
         let pcm = Some(Pcm::of(ours.pcm)).filter(|_| ours.pcm != 0);
@@ -108,10 +111,25 @@ impl Model {
             lapm: own.lapm,
             access: (own.access || pcm.is_some()).then_some(access),
         };
-        fitting(made(&menu), room)
+        let mut octets = made(&menu);
+        let field_at = match menu.access {
+            Some(_) if self.makes(Mistake::FieldBeforeAccess) => octets.len() - 1,
+            _ => octets.len(),
+        };
+        octets.splice(field_at..field_at, self.field(blocks));
+        if self.makes(Mistake::BlocksBeforeSize) {
+            self.blocks(blocks)?;
+        }
+        // "4 also for a CM that would pass 64 octets with the field".
+        if octets.len() > MOST_OCTETS && !self.makes(Mistake::FieldNotCounted) {
+            return Err(Refusal(4));
+        }
+        self.blocks(blocks)?;
+        fitting(octets, room)
     }
 
-    /// JM for a heard CM. Order: 10, "then the heard CM's refusals", then 6.
+    /// JM for a heard CM. Request 02: "The field stands last in CM; JM never carries it." Order: 10, "then the heard CM's refusals",
+    /// then 6.
     pub fn jm(&self, own: &Record, heard: &[u8], room: usize) -> Result<Vec<u8>, Refusal> {
         own.tested()?;
         let theirs = self.read(heard)?;
@@ -140,7 +158,11 @@ impl Model {
             lapm: theirs.lapm && own.lapm,
             access: (own.access || caller_cellular || pcm.is_some()).then_some(access),
         };
-        fitting(made(&menu), room)
+        let mut octets = made(&menu);
+        if self.makes(Mistake::JmWithField) {
+            octets.extend(self.group(heard, FIELD).unwrap_or(&[]));
+        }
+        fitting(octets, room)
     }
 
     /// "items in both", from 1 to 12: item 0 goes with our own PCM group alone.

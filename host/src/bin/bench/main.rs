@@ -1,5 +1,5 @@
 //! `bench [LISTING [READER]]`: times the proved library beside plain Rust of the same rules, alternating in one run, and
-//! prints the nanoseconds a bit or a step of each and how many times as long ours takes; with the path of the listing program,
+//! prints the nanoseconds a bit, a step or a field of each and how many times as long ours takes; with the path of the listing program,
 //! its megabytes a second too; with the shared object of `speed/spandsp_reader.c`, spandsp's reader of bits beside them. The best
 //! of many rounds counts, so that what else the machine does weighs little.
 mod spandsp;
@@ -10,8 +10,8 @@ use std::path::Path;
 use std::process::{Command, Stdio};
 use std::time::Instant;
 use std::{env, fs, io, process};
-use tailsprig::c::{Session, StepTaken};
-use tailsprig::{c, plain, text, Kind, Listener, Report};
+use tailsprig::c::{Block, Modes, Record, Session, StepTaken};
+use tailsprig::{c, model::Model, plain, text, Kind, Listener, Report};
 
 const ROUNDS: usize = 200;
 const MENU: [u8; 5] = [0xc1, 0x45, 0x13, 0x90, 0x2a];
@@ -64,7 +64,7 @@ fn row(name: &str, (ours, rivals): (f64, [Option<f64>; RIVALS.len()]), show: imp
     println!("{name:<34} {} {} {:>17} {}", cell(Some(show(ours))), times.join(" "), "", ratios.join(" "));
 }
 
-/// The nanoseconds of each for one of so many bits or steps.
+/// The nanoseconds of each for one of so many bits, steps or fields.
 fn compare(name: &str, count: usize, ours: Work, rivals: [Option<Work>; RIVALS.len()]) {
     row(name, best(ROUNDS, ours, rivals), |nanoseconds| format!("{:.3}", nanoseconds / count as f64));
 }
@@ -302,6 +302,99 @@ fn all_stepping() {
     stepping("step events that are refused", &[(caller, &refused)]);
 }
 
+/// Some work, again and again, beside plain Rust of the same rules.
+fn again(name: &str, mut ours: impl FnMut(), mut rust: impl FnMut()) {
+    const TIMES: usize = 2000;
+    compare(
+        name,
+        TIMES,
+        &mut || (0..TIMES).for_each(|_| ours()),
+        [Some(&mut || (0..TIMES).for_each(|_| rust())), None, None, None],
+    );
+}
+
+/// So many octets in twelve blocks: eleven of three octets, and one of what is left.
+fn twelve_blocks(length: usize) -> Vec<u8> {
+    let mut octets = [2, 0xb5, 0].repeat(11);
+    octets.extend([length as u8 - 34, 0xb5, 0]);
+    octets.resize(length, 1);
+    octets
+}
+
+/// Goes through the blocks, each behind the one before, and counts them.
+fn through(octets: &[u8], block_at: impl Fn(&[u8], usize) -> Block) -> usize {
+    let (mut at, mut blocks) = (0, 0);
+    while at < octets.len() {
+        let Block { whole, .. } = black_box(block_at(octets, at));
+        at = whole.place + whole.size;
+        blocks += 1;
+    }
+    blocks
+}
+
+/// The longest field that a heard CM can have, read; the longest of our own, made; and the blocks of the first, gone through by the place
+/// of each, and by the number of each, for which every call begins at the first block.
+fn all_fields() {
+    let carried = twelve_blocks(38);
+    let heard = [vec![0xc1, 0x2a], Model::default().field(&carried)].concat();
+    assert_eq!(heard.len(), 64, "a CM that is as long as one can be");
+    let (mut ours, mut rust) = ([0; 64], [0; 64]);
+    assert_eq!((tailsprig::fields(&heard, &mut ours), &ours[..38]), (Ok(38), &carried[..]));
+    assert_eq!((plain::fields(&heard, &mut rust), rust), (Ok(38), ours), "not the same was read");
+    again(
+        "read a field of 38 octets",
+        || {
+            let _ = black_box(tailsprig::fields(black_box(&heard), black_box(&mut ours)));
+        },
+        || {
+            let _ = black_box(plain::fields(black_box(&heard), black_box(&mut rust)));
+        },
+    );
+
+    let mut own = Record { home: 6, lapm: 1, ..Record::default() };
+    own.functions[5] = Modes { available: 1, pcm: 0, items: 0x101a };
+    let blocks = twelve_blocks(36);
+    assert_eq!(tailsprig::cm(&own, 6, &blocks, &mut ours), Ok(64));
+    assert_eq!((plain::cm(&own, 6, &blocks, &mut rust), rust), (Ok(64), ours), "not the same was made");
+    again(
+        "make a CM with a field of 36 octets",
+        || {
+            let _ = black_box(tailsprig::cm(black_box(&own), 6, black_box(&blocks), black_box(&mut ours)));
+        },
+        || {
+            let _ = black_box(plain::cm(black_box(&own), 6, black_box(&blocks), black_box(&mut rust)));
+        },
+    );
+
+    // SAFETY: the slice is lent for the call alone, with its length.
+    let at = |octets: &[u8], place| unsafe { c::tailsprig_block_at(octets.as_ptr(), octets.len(), place) };
+    // SAFETY: as above.
+    let of = |octets: &[u8], number| unsafe { c::tailsprig_block_of(octets.as_ptr(), octets.len(), number) };
+    let blocks: Vec<Block> = (0..12).map(|number| of(&carried, number)).collect();
+    assert!(blocks.iter().all(|block| *block == at(&carried, block.whole.place)), "not the same by place and by number");
+    assert!(blocks.iter().all(|block| *block == plain::block_at(&carried, block.whole.place)), "not the same blocks");
+    assert_eq!((through(&carried, at), through(&carried, plain::block_at)), (12, 12), "not as many blocks");
+    let mut plainly = || {
+        black_box(through(black_box(&carried), plain::block_at));
+    };
+    again(
+        "12 blocks, by place",
+        || {
+            black_box(through(black_box(&carried), at));
+        },
+        &mut plainly,
+    );
+    again(
+        "12 blocks, by number; Rust by place",
+        || {
+            (0..12).for_each(|number| {
+                black_box(of(black_box(&carried), number));
+            })
+        },
+        &mut plainly,
+    );
+}
+
 /// The listing program on 50 MB of menus, from a file and into nothing, beside plain Rust that does the same.
 fn listing(program: &str) -> io::Result<()> {
     let input: Vec<u8> = menus(50_000_000).iter().map(|bit| b'0' + bit).collect();
@@ -355,6 +448,9 @@ fn main() -> io::Result<()> {
     println!();
     heading("nanoseconds a step");
     all_stepping();
+    println!();
+    heading("nanoseconds a field");
+    all_fields();
     match env::args().nth(1) {
         Some(program) => listing(&program),
         None => Ok(()),

@@ -1,5 +1,5 @@
 //! Every call of the header, asked of the library and of the model.
-use crate::{inputs, random::Random};
+use crate::{fields, inputs, random::Random};
 use std::{collections::BTreeSet, fmt::Debug};
 use tailsprig::{
     c,
@@ -15,7 +15,7 @@ pub struct Call {
 }
 
 /// Which answers came: refusals as their negative numbers, others as the header numbers them. Counts and places are all told as 0, as
-/// how large they are says little.
+/// how large they are says little; a block is told as 1, and that there is none as 0.
 pub type Answers = BTreeSet<i32>;
 
 /// An input for which the library and the model answer differently.
@@ -25,7 +25,7 @@ pub struct Difference {
     pub model: String,
 }
 
-pub const CALLS: [Call; 15] = [
+pub const CALLS: [Call; 19] = [
     Call { name: "write", share: 4, check: write },
     Call { name: "write_cj", share: 1, check: write_cj },
     Call { name: "fresh and hear", share: 7, check: hear },
@@ -33,7 +33,11 @@ pub const CALLS: [Call; 15] = [
     Call { name: "find", share: 3, check: find },
     Call { name: "part", share: 3, check: part },
     Call { name: "read", share: 4, check: read },
-    Call { name: "cm", share: 3, check: cm },
+    Call { name: "fields", share: 9, check: read_fields },
+    Call { name: "blocks", share: 4, check: blocks },
+    Call { name: "block_of", share: 4, check: block_of },
+    Call { name: "block_at", share: 4, check: block_at },
+    Call { name: "cm", share: 6, check: cm },
     Call { name: "jm", share: 6, check: jm },
     Call { name: "call_function", share: 3, check: call_function },
     Call { name: "choice", share: 6, check: choice },
@@ -277,14 +281,58 @@ fn read(model: &Model, random: &mut Random, answers: &mut Answers) -> Result<(),
     compared(library, numbers::menu_read(model.read(&octets)), || text::show_octets(&octets))
 }
 
+fn read_fields(model: &Model, random: &mut Random, answers: &mut Answers) -> Result<(), Difference> {
+    let heard = fields::heard(random);
+    let room = fields::room(random, &heard);
+    // SAFETY: as for `write`.
+    let library =
+        |out: &mut [u8]| unsafe { c::tailsprig_fields(heard.as_ptr(), heard.len(), out.as_mut_ptr(), out.len()) };
+    let code = written(room, library, model.fields(&heard, room), || format!("{}\t{room}", text::show_octets(&heard)))?;
+    answers.insert(code.min(0));
+    Ok(())
+}
+
+fn blocks(model: &Model, random: &mut Random, answers: &mut Answers) -> Result<(), Difference> {
+    let octets = fields::blocks(random);
+    // SAFETY: as for `find`.
+    let library = unsafe { c::tailsprig_blocks(octets.as_ptr(), octets.len()) };
+    answers.insert(library.code);
+    compared(library, numbers::blocks_read(model.blocks(&octets)), || text::show_octets(&octets))
+}
+
+fn block_of(model: &Model, random: &mut Random, answers: &mut Answers) -> Result<(), Difference> {
+    let octets = fields::blocks(random);
+    let number = fields::number(random, &octets);
+    // SAFETY: as for `find`.
+    let library = unsafe { c::tailsprig_block_of(octets.as_ptr(), octets.len(), number) };
+    answers.insert(i32::from(library != c::Block::default()));
+    let answer = numbers::block(model.block_of(&octets, number));
+    compared(library, answer, || format!("{}\t{number}", text::show_octets(&octets)))
+}
+
+fn block_at(model: &Model, random: &mut Random, answers: &mut Answers) -> Result<(), Difference> {
+    let octets = fields::blocks(random);
+    let place = fields::place(random, &octets);
+    // SAFETY: as for `find`.
+    let library = unsafe { c::tailsprig_block_at(octets.as_ptr(), octets.len(), place) };
+    answers.insert(i32::from(library != c::Block::default()));
+    let answer = numbers::block(model.block_at(&octets, place).ok());
+    compared(library, answer, || format!("{}\t{place}", text::show_octets(&octets)))
+}
+
 fn cm(model: &Model, random: &mut Random, answers: &mut Answers) -> Result<(), Difference> {
     let own = inputs::record(random);
     let function = inputs::function(random, &own);
-    let room = inputs::menu_room(random);
-    // SAFETY: the record goes by value; the slice is lent for the call alone, with its length.
-    let library = |out: &mut [u8]| unsafe { c::tailsprig_cm(own, function, out.as_mut_ptr(), out.len()) };
-    let answer = numbers::record(&own).and_then(|own| model.cm(&own, function, room));
-    let code = written(room, library, answer, || format!("{}\t{function}\t{room}", text::show_record(&own)))?;
+    let blocks = fields::own_blocks(random);
+    let room = fields::cm_room(random, &blocks);
+    // SAFETY: the record goes by value; both slices are lent for the call alone, with their lengths.
+    let library = |out: &mut [u8]| unsafe {
+        c::tailsprig_cm(own, function, blocks.as_ptr(), blocks.len(), out.as_mut_ptr(), out.len())
+    };
+    let answer = numbers::record(&own).and_then(|own| model.cm(&own, function, &blocks, room));
+    let code = written(room, library, answer, || {
+        format!("{}\t{function}\t{}\t{room}", text::show_record(&own), text::show_octets(&blocks))
+    })?;
     answers.insert(code.min(0));
     Ok(())
 }

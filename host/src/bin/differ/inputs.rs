@@ -1,11 +1,14 @@
 //! Inputs: mostly what a line or a host would bring, and damage of every kind to it.
-use crate::random::Random;
+use crate::{
+    fields::{self, FIELD},
+    random::Random,
+};
 use tailsprig::{c, model::Model, numbers};
 
-/// The tags that document 01 gives a meaning.
-const TAGS: [u8; 5] = [1, 5, 7, 10, 13];
+/// The tags that the documents give a meaning.
+const TAGS: [u8; 6] = [1, 5, 7, 10, 13, FIELD];
 
-fn extension_octet(random: &mut Random) -> u8 {
+pub fn extension_octet(random: &mut Random) -> u8 {
     match random.below(8) {
         // Octet 55 looks like the V.92 sync on the line.
         0 => 0x55,
@@ -13,7 +16,7 @@ fn extension_octet(random: &mut Random) -> u8 {
     }
 }
 
-fn group(random: &mut Random, tag: u8, extensions: usize) -> Vec<u8> {
+pub fn group(random: &mut Random, tag: u8, extensions: usize) -> Vec<u8> {
     let mut octets = vec![random.byte() & 0xe0 | tag];
     octets.extend((0..extensions).map(|_| extension_octet(random)));
     octets
@@ -35,7 +38,7 @@ fn known_group(random: &mut Random, tag: u8) -> Vec<u8> {
 }
 
 /// A menu that reading does not refuse.
-fn sound_menu(random: &mut Random) -> Vec<u8> {
+pub fn sound_menu(random: &mut Random) -> Vec<u8> {
     let mut groups: Vec<Vec<u8>> = Vec::new();
     for tag in [5, 7, 10, 13] {
         if !random.one_in(if tag == 5 { 10 } else { 3 }) {
@@ -75,7 +78,7 @@ fn fill(random: &mut Random, octets: &mut Vec<u8>) {
 }
 
 /// One edit to a list of octets.
-fn damage(random: &mut Random, octets: &mut Vec<u8>) {
+pub fn damage(random: &mut Random, octets: &mut Vec<u8>) {
     let at = random.below(octets.len() + 1);
     match (random.below(8), octets.get_mut(at)) {
         (0, Some(octet)) => *octet = random.byte(),
@@ -202,7 +205,8 @@ pub fn function(random: &mut Random, record: &c::Record) -> u8 {
 /// A CM: that of a record, or any menu.
 pub fn cm(random: &mut Random) -> Vec<u8> {
     let record = record(random);
-    let made = numbers::record(&record).and_then(|own| Model::default().cm(&own, record.home, 7));
+    let blocks = if random.one_in(4) { fields::own_blocks(random) } else { Vec::new() };
+    let made = numbers::record(&record).and_then(|own| Model::default().cm(&own, record.home, &blocks, 64));
     match made {
         Ok(octets) if !random.one_in(3) => octets,
         _ => menu(random),

@@ -5,6 +5,7 @@
 //! answers came. Exits with 1 on a difference and with 2 where it is asked for something else. With `--broken` the model breaks a
 //! rule on purpose, and the run ends once that is noticed; `differ --mistakes` prints the names.
 mod calls;
+mod fields;
 mod inputs;
 mod random;
 
