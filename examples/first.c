@@ -9,8 +9,9 @@ int main(void)
         .home = TAILSPRIG_FUNCTION_DATA,
         .lapm = 1,
     };
+    const uint8_t no_blocks[1] = {0}; /* no field: a length of 0, and a pointer that is not NULL all the same */
     uint8_t menu[TAILSPRIG_MENU_MOST], line[TAILSPRIG_MOST_BITS];
-    int32_t octets = tailsprig_cm(own, TAILSPRIG_FUNCTION_DATA, menu, sizeof menu);
+    int32_t octets = tailsprig_cm(own, TAILSPRIG_FUNCTION_DATA, no_blocks, 0, menu, sizeof menu);
     int32_t bits = octets < 0 ? octets : tailsprig_write(TAILSPRIG_MENU, menu, (size_t)octets, 1, line, sizeof line);
 
     if (bits < 0) {

@@ -20,8 +20,8 @@ struct line {
     struct tailsprig_listener heard;
     uint8_t menu[TAILSPRIG_MENU_MOST]; /* the CM or JM of this end */
     size_t menu_len;
-    uint8_t bits[TAILSPRIG_MOST_BITS]; /* one copy of it and CJ behind it, a byte for each bit */
-    size_t len, sent;                  /* the bits of the copy, and how many of what is sent are on the line */
+    uint8_t bits[TAILSPRIG_MOST_BITS + TAILSPRIG_CJ_BITS]; /* one copy of it and CJ behind it, a byte for each bit */
+    size_t len, sent; /* the bits of the copy, and how many of what is sent are on the line */
 };
 
 static void show(const struct line *line, uint32_t now, const char *what)
@@ -197,7 +197,8 @@ int main(void)
     struct line answerer = {.name = "answerer",
                             .own = for_data(TAILSPRIG_V32BIS | TAILSPRIG_V22BIS | TAILSPRIG_V26TER, 0)};
     struct way there = {.next = 0}, back = {.next = 0};
-    int32_t made = tailsprig_cm(caller.own, TAILSPRIG_FUNCTION_DATA, caller.menu, sizeof caller.menu);
+    const uint8_t no_blocks[1] = {0};
+    int32_t made = tailsprig_cm(caller.own, TAILSPRIG_FUNCTION_DATA, no_blocks, 0, caller.menu, sizeof caller.menu);
 
     if (made < 0)
         return 1;
