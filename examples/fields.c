@@ -62,8 +62,9 @@ int main(void)
     }
     printf("heard: ");
     bool heard = says_level(HEARD, sizeof HEARD, 4, 19);
-    printf("ours: ");
+    printf("our CM:");
     for (int32_t i = 0; i < octets; i++)
-        printf("%02X ", menu[i]);
+        printf(" %02X", menu[i]);
+    printf("\nread back: ");
     return says_level(menu, (size_t)octets, 2, 7) && heard ? 0 : 1;
 }

@@ -444,11 +444,14 @@ struct tailsprig_record {
  *   14  a block is longer than what remains, or a code does not fit in its block
  *    6  out is too short
  *
- * blocks  the octets of our own blocks, one behind the other; they become the field, which stands last. With a
- *     blocks_len of 0 there is none, and the pointer is still not NULL. 36 octets fit, and 35 where the CM has 6 or 7
- *     octets without them: with PCM, or with both LAPM and access.
- *     Not every station takes them: spandsp 0.0.6 does not return from a CM with a group of tag 15 (measured;
- *     docs/INTEROP.md). Who calls stations of unknown make gives blocks only where the station is known to take them.
+ * blocks: the octets of our own blocks, one behind the other. They become the field, which stands last; with a
+ *     blocks_len of 0 there is none, and the pointer is not NULL all the same. What a host has to know of them:
+ *   How many.  36 octets fit, and 35 where the CM has 6 or 7 octets without them: with PCM, or with LAPM and access.
+ *   Who takes them.  spandsp 0.0.6 does not return from a CM with a group of tag 15 (measured; docs/INTEROP.md). Who
+ *     calls stations of unknown make gives blocks only where the station is known to take them.
+ *   How long they take.  A CM of n octets is agreed with bit 50 + 20 * n at the soonest: where n is 64 that is 4.4 s
+ *     after it began, and Te was before it. An answerer has left 5,000 ms after its ANSam began. With a Te of 1,000 a
+ *     CM of more than 57 octets is not agreed in time, even on a line without damage or delay.
  */
 int32_t tailsprig_cm(struct tailsprig_record own, uint8_t function, const uint8_t *blocks, size_t blocks_len,
                      uint8_t *out, size_t out_len);

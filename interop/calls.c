@@ -1,8 +1,9 @@
 /*
- * Whole calls between our library and spandsp's V.8, in both roles, over V.21 audio in simulated time. Prints what each
- * side understood, and exits with 1 where a call that both can agree on went otherwise.
+ * Whole calls between our library and spandsp's V.8, in both roles, over V.21 audio in simulated time, and calls between
+ * two ends of ours. Prints what each side understood, and exits with 1 where a call that both can agree on went otherwise.
  */
 #include "our_end.h"
+#include "own_calls.h"
 #include "probes.h"
 #include "their_end.h"
 #include "words.h"
@@ -274,7 +275,8 @@ static const char *difference_of(const struct outcome *outcome)
 
 static void run_call(const struct call *call, struct outcome *outcome)
 {
-    our_end_start(&outcome->ours, call->we_call ? TAILSPRIG_CALLER : TAILSPRIG_ANSWERER, record_of(call), call->function);
+    our_end_start(&outcome->ours, call->we_call ? TAILSPRIG_CALLER : TAILSPRIG_ANSWERER, record_of(call), call->function,
+                  NO_BLOCKS, 0);
     their_end_start(&outcome->theirs, !call->we_call, call->narrows, call->theirs);
     pass_audio(&outcome->ours, &outcome->theirs);
     our_end_free(&outcome->ours);
@@ -335,7 +337,10 @@ int main(void)
     print_menus(outcomes);
     print_endings(outcomes);
     printf("\n");
-    int failures = run_probes() + count_failures(outcomes);
+    int failures = run_probes();
+    printf("\n");
+    failures += run_own_calls();
+    failures += count_failures(outcomes);
     printf(failures == 0 ? "\nas expected\n" : "\n%d not as expected\n", failures);
     return failures == 0 ? 0 : 1;
 }

@@ -92,7 +92,10 @@ static void hear_tone(void *user, int tone, int level, int delay)
         take(end, TAILSPRIG_EVENT_ANS, 0);
 }
 
-void our_end_start(struct our_end *end, uint8_t which, struct tailsprig_record record, uint8_t function)
+const uint8_t NO_BLOCKS[1];
+
+void our_end_start(struct our_end *end, uint8_t which, struct tailsprig_record record, uint8_t function,
+                   const uint8_t *blocks, size_t blocks_len)
 {
     bool caller = which == TAILSPRIG_CALLER;
     memset(end, 0, sizeof *end);
@@ -100,7 +103,7 @@ void our_end_start(struct our_end *end, uint8_t which, struct tailsprig_record r
     end->session = caller ? tailsprig_start_caller_default(0) : tailsprig_start_answerer(0);
     end->record = record;
     if (caller) {
-        int32_t len = tailsprig_cm(record, function, end->sent.octets, sizeof end->sent.octets);
+        int32_t len = tailsprig_cm(record, function, blocks, blocks_len, end->sent.octets, sizeof end->sent.octets);
         end->sent.len = len > 0 ? (size_t)len : 0;
     }
     v21_open(&end->sender, caller);

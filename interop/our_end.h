@@ -27,8 +27,12 @@ struct our_end {
     modem_connect_tones_rx_state_t *tone_detector;
 };
 
-/* A call from time 0 on. The function is what a caller asks for. */
-void our_end_start(struct our_end *end, uint8_t which, struct tailsprig_record record, uint8_t function);
+/* A call from time 0 on. The function is what a caller asks for, the blocks are the field of its CM; no octets, no field. */
+void our_end_start(struct our_end *end, uint8_t which, struct tailsprig_record record, uint8_t function,
+                   const uint8_t *blocks, size_t blocks_len);
+
+/* Blocks for an end whose CM has no field. */
+extern const uint8_t NO_BLOCKS[1];
 void our_end_free(struct our_end *end);
 
 void our_end_speak(struct our_end *end, int16_t audio[BLOCK_SAMPLES]);

@@ -13,9 +13,10 @@
 
 enum { FAX_SENT = TAILSPRIG_FUNCTION_FAX_SENT, HANG_CPU_SECONDS = 1, LISTEN_MS = 15000, CALL_MS = 6000 };
 
-/* Data with LAPM, and the same with a group of tag 15 behind it. */
+/* Data with LAPM; the same with a group of tag 15 behind it, that is empty; and with the shortest block in it. */
 static const uint8_t CM[] = {0xC1, 0x45, 0x13, 0x90, 0x2A};
 static const uint8_t CM_WITH_TAG_15[] = {0xC1, 0x45, 0x13, 0x90, 0x2A, 0x0F};
+static const uint8_t CM_WITH_BLOCK[] = {0xC1, 0x45, 0x13, 0x90, 0x2A, 0x0F, 0x12, 0x50, 0x55, 0x11, 0x10};
 
 static const v8_parms_t DATA_ONLY = {
     .modem_connect_tone = MODEM_CONNECT_TONES_ANSAM_PR,
@@ -70,7 +71,7 @@ static int probe_copies(uint16_t copies, size_t ones)
     struct our_end ours;
     struct tailsprig_record nothing = {.home = 6, .functions[5] = {.available = 1}};
     their_end_start(&theirs, false, false, DATA_ONLY);
-    our_end_start(&ours, TAILSPRIG_ANSWERER, nothing, 0);
+    our_end_start(&ours, TAILSPRIG_ANSWERER, nothing, 0, NO_BLOCKS, 0);
     while (ours.session.state != TAILSPRIG_STATE_ANSWERING)
         our_end_tick(&ours);
     play(&theirs, &ours, bits, len + ones, false, CALL_MS);
@@ -82,12 +83,12 @@ static int probe_copies(uint16_t copies, size_t ones)
     return agreed ? 0 : 1;
 }
 
-static void play_tag_15(void)
+static void play_tag_15(const uint8_t *cm, size_t cm_len)
 {
     const struct rlimit little = {HANG_CPU_SECONDS, HANG_CPU_SECONDS + 1};
     const struct rlimit none = {0, 0};
     uint8_t bits[TAILSPRIG_MOST_BITS];
-    int32_t len = tailsprig_write(TAILSPRIG_MENU, CM_WITH_TAG_15, sizeof CM_WITH_TAG_15, 1, bits, sizeof bits);
+    int32_t len = tailsprig_write(TAILSPRIG_MENU, cm, cm_len, 1, bits, sizeof bits);
     struct their_end theirs;
     setrlimit(RLIMIT_CPU, &little);
     setrlimit(RLIMIT_CORE, &none);
@@ -97,12 +98,12 @@ static void play_tag_15(void)
 }
 
 /* In a process of its own, as it may not come back. Our reader passes over the group. */
-static int probe_tag_15(void)
+static int probe_tag_15(const char *group, const uint8_t *cm, size_t cm_len)
 {
     fflush(stdout);
     pid_t child = fork();
     if (child == 0)
-        play_tag_15();
+        play_tag_15(cm, cm_len);
     int status = 0;
     const char *what = "it reports no menu";
     if (child < 0 || waitpid(child, &status, 0) < 0)
@@ -113,8 +114,8 @@ static int probe_tag_15(void)
         what = "it crashed";
     else if (WEXITSTATUS(status) == 0)
         what = "it reports the menu";
-    int32_t code = tailsprig_read(CM_WITH_TAG_15, sizeof CM_WITH_TAG_15).code;
-    printf("| our CM with a group of tag 15 | %s; our reader: %s |\n", what, code == 0 ? "read" : "refused");
+    int32_t code = tailsprig_read(cm, cm_len).code;
+    printf("| our CM with a group of tag 15, %s | %s; our reader: %s |\n", group, what, code == 0 ? "read" : "refused");
     return code == 0 ? 0 : 1;
 }
 
@@ -142,7 +143,7 @@ static void probe_their_ci(void)
     int16_t audio[BLOCK_SAMPLES];
     const int16_t silence[BLOCK_SAMPLES] = {0};
     their_end_start(&theirs, true, false, DATA_ONLY);
-    our_end_start(&ours, TAILSPRIG_ANSWERER, (struct tailsprig_record){0}, 0);
+    our_end_start(&ours, TAILSPRIG_ANSWERER, (struct tailsprig_record){0}, 0, NO_BLOCKS, 0);
     for (uint32_t now = 0; now < LISTEN_MS; now += BLOCK_MS) {
         their_end_speak(&theirs, audio);
         our_end_hear(&ours, audio);
@@ -183,7 +184,8 @@ int run_probes(void)
     int failures = probe_ci();
     failures += probe_copies(2, V21_FRAME_BITS);
     failures += probe_copies(3, 0);
-    failures += probe_tag_15();
+    failures += probe_tag_15("empty", CM_WITH_TAG_15, sizeof CM_WITH_TAG_15);
+    failures += probe_tag_15("a block in it", CM_WITH_BLOCK, sizeof CM_WITH_BLOCK);
     probe_their_ci();
     probe_their_v92();
     return failures;

@@ -582,6 +582,22 @@ static int32_t with_field(struct tailsprig_record own, size_t octets, size_t roo
     return tailsprig_cm(own, TAILSPRIG_FUNCTION_DATA, block, octets, made, room);
 }
 
+/* With which bit a CM of so many octets is agreed, which is sent over and over. */
+static size_t bits_until_agreed(size_t octets)
+{
+    uint8_t menu[TAILSPRIG_MOST_OCTETS] = {0xC1}, bits[3 * TAILSPRIG_MOST_BITS];
+    size_t len;
+
+    memset(menu + 1, 0x10, sizeof menu - 1);
+    len = (size_t)tailsprig_write(TAILSPRIG_MENU, menu, octets, 3, bits, sizeof bits);
+
+    struct tailsprig_ran ran = tailsprig_hear_many(tailsprig_fresh(), bits, len);
+    size_t first = ran.taken;
+
+    ran = tailsprig_hear_many(ran.rec, bits + first, len - first);
+    return ran.code == TAILSPRIG_HEARD_AGREED ? first + ran.taken : 0;
+}
+
 static void own_fields(void)
 {
     struct tailsprig_record own = {.functions[5] = {.available = 1, .items = TAILSPRIG_V34 | TAILSPRIG_V32BIS | TAILSPRIG_V22BIS | TAILSPRIG_V21},
@@ -609,6 +625,11 @@ static void own_fields(void)
     CHECK(with_field(own, 35, 64) == 64 && with_field(own, 36, 64) == -TAILSPRIG_TOO_MANY_OCTETS);
     own.lapm = 0;
     CHECK(with_field(own, 35, 64) == 63 && with_field(own, 36, 64) == -TAILSPRIG_TOO_MANY_OCTETS);
+
+    /* With a Te of 1,000 an answerer hears 57 octets twice before it leaves, and not 58. */
+    CHECK(bits_until_agreed(57) == 50 + 20 * 57 && 1000 + bits_until_agreed(57) * 10 / 3 < 5000);
+    CHECK(1000 + bits_until_agreed(58) * 10 / 3 > 5000);
+    CHECK(bits_until_agreed(64) == 50 + 20 * 64 && bits_until_agreed(64) / 300.0 > 4.4 && bits_until_agreed(64) / 300.0 < 4.5);
 }
 
 static bool makes_jm(struct tailsprig_record own, const uint8_t *heard, size_t heard_len, const uint8_t *menu, size_t len)
