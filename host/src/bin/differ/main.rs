@@ -1,4 +1,4 @@
-//! `differ [--seed N] [--inputs N] [--broken NAME]`: asks the library and the model of document 01 the same, through every call of
+//! `differ [--seed N] [--inputs N] [--broken NAME]`: asks the library and the model of the documents the same, through every call of
 //! the header, over random and damaged inputs, and compares what they answer with all the memory that was lent.
 //!
 //! Prints the first difference of each call, then a line for each call with the inputs that were tried, how many differ and which
