@@ -358,7 +358,7 @@ struct tailsprig_menu_read tailsprig_read(const uint8_t *octets, size_t octets_l
  *   14  a block is longer than what remains, or a code does not fit in its block
  *    6  out is too short
  *
- * A refused field is the maker's mistake alone: the CM that has it is agreed, read and answered as any other.
+ * No other call looks into the field: a CM in which it is refused is agreed, read and answered as any other.
  */
 int32_t tailsprig_fields(const uint8_t *octets, size_t octets_len, uint8_t *out, size_t out_len);
 
