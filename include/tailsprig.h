@@ -450,8 +450,9 @@ struct tailsprig_record {
  *   Who takes them.  spandsp 0.0.6 does not return from a CM with a group of tag 15 (measured; docs/INTEROP.md). Who
  *     calls stations of unknown make gives blocks only where the station is known to take them.
  *   How long they take.  A CM of n octets is agreed with bit 50 + 20 * n at the soonest: where n is 64 that is 4.4 s
- *     after it began, and Te was before it. An answerer has left 5,000 ms after its ANSam began. With a Te of 1,000 a
- *     CM of more than 57 octets is not agreed in time, even on a line without damage or delay.
+ *     after it began. An answerer has left 5,000 ms after its ANSam began, and before CM the caller has to detect ANSam
+ *     and to be quiet for Te. With a Te of 1,000 a CM of more than 57 octets is never agreed in time; with the tone
+ *     detector of docs/INTEROP.md none of more than 37 was, which has 19 octets of blocks. So blocks are short.
  */
 int32_t tailsprig_cm(struct tailsprig_record own, uint8_t function, const uint8_t *blocks, size_t blocks_len,
                      uint8_t *out, size_t out_len);

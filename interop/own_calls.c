@@ -6,17 +6,18 @@
 #include <stdio.h>
 #include <string.h>
 
-enum { CALL_MS = 30000, SHORTEST_BLOCK = 3 };
+/* Where the answerer comes later it is once the caller calls, as where a telephone rings first. */
+enum { CALL_MS = 30000, AT_ONCE = 0, LATER_MS = 3000, SHORTEST_BLOCK = 3 };
 
-/* Two blocks: a firmware level behind a country code of two octets and a provider code, and the shortest block that there is. */
-static const uint8_t BLOCKS[] = {0x07, 0xFF, 0xB5, 0x02, 0x41, 0x43, 0x01, 0x09, 0x02, 0x26, 0x00};
+/* A firmware level behind a country and a provider code, and the shortest block that there is. */
+static const uint8_t BLOCKS[] = {0x05, 0xB5, 0x01, 0x41, 0x02, 0x07, 0x02, 0x26, 0x00};
 
 struct own_call {
     struct our_end caller, answerer;
     struct menu field; /* what the answerer read of the field of CM */
 };
 
-static void run_call(struct own_call *call, const uint8_t *blocks, size_t blocks_len)
+static void run_call(struct own_call *call, uint32_t later_ms, const uint8_t *blocks, size_t blocks_len)
 {
     const struct tailsprig_record record = {
         .functions[TAILSPRIG_FUNCTION_DATA - 1] = {.available = 1, .items = TAILSPRIG_V34 | TAILSPRIG_V32BIS},
@@ -24,10 +25,15 @@ static void run_call(struct own_call *call, const uint8_t *blocks, size_t blocks
         .lapm = 1,
     };
     struct our_end *caller = &call->caller, *answerer = &call->answerer;
-    int16_t there[BLOCK_SAMPLES], back[BLOCK_SAMPLES];
+    int16_t there[BLOCK_SAMPLES], back[BLOCK_SAMPLES] = {0};
 
     our_end_start(caller, TAILSPRIG_CALLER, record, TAILSPRIG_FUNCTION_DATA, blocks, blocks_len);
-    our_end_start(answerer, TAILSPRIG_ANSWERER, record, 0, blocks, 0);
+    while (caller->now < later_ms) {
+        our_end_speak(caller, there);
+        our_end_hear(caller, back);
+        our_end_tick(caller);
+    }
+    our_end_start(answerer, TAILSPRIG_ANSWERER, record, 0, NO_BLOCKS, 0);
     while (caller->now < CALL_MS && (caller->session.ended == 0 || answerer->session.ended == 0)) {
         our_end_speak(caller, there);
         our_end_speak(answerer, back);
@@ -62,7 +68,7 @@ static int call_with_two_blocks(void)
     struct own_call call;
     char cm[WORDS_ROOM], field[WORDS_ROOM], chosen[WORDS_ROOM];
 
-    run_call(&call, BLOCKS, sizeof BLOCKS);
+    run_call(&call, AT_ONCE, BLOCKS, sizeof BLOCKS);
     bool agree = agrees(&call, BLOCKS, sizeof BLOCKS);
     printf("| CM %s | %s; read of its field: %s; both go on with %s after %.1f s |\n", words_of_octets(cm, &call.caller.sent),
            agree ? "agreed" : "FAILED", words_of_octets(field, &call.field),
@@ -71,7 +77,7 @@ static int call_with_two_blocks(void)
 }
 
 /* An answerer waits for CM while it sends ANSam and no longer, so a field can be too long for two copies. One block each time. */
-static int call_with_longer_fields(void)
+static int call_with_longer_fields(const char *when, uint32_t later_ms)
 {
     struct own_call call;
     uint8_t block[TAILSPRIG_FIELD_MOST] = {0, 0xB5};
@@ -80,21 +86,22 @@ static int call_with_longer_fields(void)
 
     while (agree && len < sizeof block) {
         block[0] = (uint8_t)len; /* counts what follows it, so this block has one octet more */
-        run_call(&call, block, len + 1);
+        run_call(&call, later_ms, block, len + 1);
         agree = call.caller.sent.len > 0 && agrees(&call, block, len + 1);
         if (agree) {
             cm_len = call.caller.sent.len;
             len++;
         }
     }
-    printf("| fields of 3, 4, 5 .. octets | the last that is agreed has %zu, in a CM of %zu; with one more: we end '%s', the "
-           "answerer '%s' |\n",
-           len, cm_len, word_of_ending(&call.caller.session), word_of_ending(&call.answerer.session));
+    printf("| fields of 3, 4, 5 .. octets; the answerer starts %s | up to %zu octets, a CM of %zu, are agreed; with one more "
+           "the caller ends '%s', the answerer '%s' |\n",
+           when, len, cm_len, word_of_ending(&call.caller.session), word_of_ending(&call.answerer.session));
     return len >= SHORTEST_BLOCK ? 0 : 1;
 }
 
 int run_own_calls(void)
 {
     printf("| between two ends of ours | what came |\n|---|---|\n");
-    return call_with_two_blocks() + call_with_longer_fields();
+    return call_with_two_blocks() + call_with_longer_fields("with the caller", AT_ONCE) +
+           call_with_longer_fields("3 s later", LATER_MS);
 }
