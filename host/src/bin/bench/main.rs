@@ -333,7 +333,7 @@ fn through(octets: &[u8], block_at: impl Fn(&[u8], usize) -> Block) -> usize {
 }
 
 /// The longest field that a heard CM can have, read; the longest of our own, made; and the blocks of the first, gone through by the place
-/// of each, and by the number of each, for which every call begins at the first block.
+/// of each, and by the number of each, for which every call begins at the first block. Rust goes by place in both.
 fn all_fields() {
     let carried = twelve_blocks(38);
     let heard = [vec![0xc1, 0x2a], Model::default().field(&carried)].concat();
@@ -357,7 +357,7 @@ fn all_fields() {
     assert_eq!(tailsprig::cm(&own, 6, &blocks, &mut ours), Ok(64));
     assert_eq!((plain::cm(&own, 6, &blocks, &mut rust), rust), (Ok(64), ours), "not the same was made");
     again(
-        "make a CM with a field of 36 octets",
+        "make a CM with 36 octets of field",
         || {
             let _ = black_box(tailsprig::cm(black_box(&own), 6, black_box(&blocks), black_box(&mut ours)));
         },
@@ -385,7 +385,7 @@ fn all_fields() {
         &mut plainly,
     );
     again(
-        "12 blocks, by number; Rust by place",
+        "12 blocks, by number",
         || {
             (0..12).for_each(|number| {
                 black_box(of(black_box(&carried), number));
