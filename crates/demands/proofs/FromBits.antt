@@ -1,7 +1,7 @@
 -- From two records to both ends' sessions: what is written is heard as it was made, so the whole call holds of what the bits bring. And there
 -- is such an exchange for every call: each buffer is as long as what is put there.
 -- Assumes nothing.
-use Prim.Native.Nat.{ℕ, suc}
+use Prim.Native.Nat.{ℕ, suc, _≤_}
 use native.Mathlib.Omega.{arith}
 use mathlib.Core.Path.{_≡_, refl, sym, ap, subst, _∙_}
 use mathlib.Core.Bool.{Bool, true, false}
@@ -130,9 +130,12 @@ module _ (caller answerer : Record) (function : ℕ) (blocks : List ℕ) (call :
   }
 
 -- a buffer as long as what is put there
-room-there : (new : List ℕ) → roomFault new new ≡ 0
+pub room-fits : (new lent : List ℕ) → length new ≤ length lent → roomFault new lent ≡ 0
 unfolding when
-room-there new = simp (le-ltb (length new) (length new) (omega arith))
+room-fits new lent room = simp (le-ltb (length lent) (length new) room)
+
+room-there : (new : List ℕ) → roomFault new new ≡ 0
+room-there new = room-fits new new (omega arith)
 
 pub put-fine : (f : ℕ) (new lent : List ℕ) → f ≡ 0 → put f new lent ≡ record { answer = count (length new); buffer = front new lent }
 unfolding put when

@@ -100,7 +100,7 @@ put-answer f new out =
     (λ none. sym (answered-fine _ lent.refusal f none)) (λ some. sym (answered-refused (count (length new)) lent.refusal f some))
 
 -- by any faults, the last of which is told as it is
-first-behind : (faults : List ℕ) (last : ℕ) → behind faults last ≡ firstOf (faults ++ last ∷ [])
+pub first-behind : (faults : List ℕ) (last : ℕ) → behind faults last ≡ firstOf (faults ++ last ∷ [])
 first-behind [] last = last-fault last
 first-behind (f ∷ faults) last = ap (before f) (first-behind faults last)
 

@@ -4,7 +4,7 @@ use Prim.Native.Nat.{ℕ, suc, _+_, _*_, _%_, _<_, _≤_}
 use native.Mathlib.Nat.{not-suc-le-zero}
 use native.Mathlib.Omega.{arith}
 use mathlib.Core.Path.{_≡_, refl, ap, _∙_}
-use mathlib.Core.Bool.{true, false}
+use mathlib.Core.Bool.{Bool, true, false}
 use mathlib.Core.List.{List, [], _∷_}
 use borrow.Author.Tests.{eq-eqb, ne-eqb}
 use lib.Dec.{leb, eqb}
@@ -56,6 +56,11 @@ module _ (octets : List ℕ) where
   unfolding when
   blocks-unfit e = simp e
 
+accepted-if : (t : Bool) → _≡_ {A = ℕ} (when t 0 15) 0 → t ≡ true
+unfolding when
+accepted-if true e = refl
+accepted-if false e = absurd (let z : ⊥ = omega (arith, e) in z)
+
 module _ (group : List ℕ) where
   pub packed-by : (chosen size left : ℕ) → chosen ≡ optionsIn group → size ≡ length (drop 1 group) → left ≡ leftOver (drop 1 group)
       → both (eqb chosen 0) (both (leb (5 * size % 8) 4) (eqb left 0)) ≡ isPacked group
@@ -64,6 +69,9 @@ module _ (group : List ℕ) where
   pub packed-well : isPacked group ≡ true → packingFault group ≡ 0
   unfolding when
   packed-well e = simp e
+
+  pub packed-if : packingFault group ≡ 0 → isPacked group ≡ true
+  packed-if = accepted-if (isPacked group)
 
   pub packed-badly : isPacked group ≡ false → 15 ≡ packingFault group
   unfolding when

@@ -101,6 +101,14 @@ module _ (heard : List ℕ) where
   unfolding looked
   tells = either-way Tells (eqb fault 0) (firstGroup fieldTag 0 heard) (refusal fault) (λ e. tells-read (firstGroup fieldTag 0 heard) refl (eqb-true fault 0 e)) (λ _. refl)
 
+  pub place-tells : (p : ℕ) → place p ≡ looked heard fieldTag → (listFault Reading heard ≡ 0) × (groupOf heard fieldTag ≡ partAt heard p)
+  unfolding groupOf
+  place-tells p e = let told = subst Tells (sym e) tells in (told .0, ap (partOf heard) (told .1))
+
+  pub nowhere-tells : nowhere ≡ looked heard fieldTag → (listFault Reading heard ≡ 0) × (groupOf heard fieldTag ≡ [])
+  unfolding groupOf
+  nowhere-tells e = let told = subst Tells (sym e) tells in (told .0, ap (partOf heard) (told .1))
+
   -- a group that is empty is nowhere
   empty-nowhere : groupOf heard fieldTag ≡ [] → (l : Looked) → Tells l → fault ≡ 0 → l ≡ looked heard fieldTag → looked heard fieldTag ≡ nowhere
   unfolding groupOf
@@ -132,14 +140,12 @@ module _ (heard : List ℕ) where
     nothing-read = meets-put [] out 0 out (omega arith) refl refl
 
     pub read-nothing : nowhere ≡ looked heard fieldTag → Meets (fieldRead heard out) (Count 0) out
-    unfolding groupOf
-    read-nothing e = let told = subst Tells (sym e) tells in read-group-is [] (ap (partOf heard) (told .1)) (told .0) (Count 0) out nothing-read
+    read-nothing e = let told = nowhere-tells e in read-group-is [] (told .1) (told .0) (Count 0) out nothing-read
 
     -- a group has it
     module _ (p : ℕ) (e : place p ≡ looked heard fieldTag) where
       pub read-found : (r : Wrote) (after : List ℕ) → Meets (groupRead (partAt heard p) out) r after → Meets (fieldRead heard out) r after
-      unfolding groupOf
-      read-found r after m = let told = subst Tells (sym e) tells in read-group-is (partAt heard p) (ap (partOf heard) (told .1)) (told .0) r after m
+      read-found r after m = let told = place-tells p e in read-group-is (partAt heard p) (told .1) (told .0) r after m
 
   module _ (p : ℕ) (e : place p ≡ looked heard fieldTag) where
     pub group-some : 0 < length (partAt heard p)
