@@ -506,13 +506,17 @@ fn no_promise_of_the_library_cites_a_proof() {
     }
 }
 
-/// `docs/TRUST.md` says so of the stack.
+/// `docs/TRUST.md` says so of the stack: document 01 asks for one function that does.
 #[test]
-fn no_function_of_the_library_calls_itself() {
+fn no_function_of_the_library_but_the_walk_over_blocks_calls_itself() {
+    let mut found = Vec::new();
     for krate in crates().iter().filter(|krate| !PROGRAMS.contains(&krate.as_str())) {
         let calls = calls(&read(&root().join("crates").join(krate).join("src/lib.rt")));
         for name in calls.keys() {
-            assert!(!reached(&calls[name], &calls).contains(name), "{krate}::{name} calls itself");
+            if reached(&calls[name], &calls).contains(name) {
+                found.push(format!("{krate}::{name}"));
+            }
         }
     }
+    assert_eq!(found, ["fields::walk_on"], "functions that call themselves");
 }
