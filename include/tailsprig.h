@@ -384,6 +384,9 @@ struct tailsprig_blocks_read {
 /*
  * Goes over the octets of a field, however many, and says how many blocks they are; no octets are no blocks. Refusal
  * 14: a block is longer than what remains, or a code does not fit in its block.
+ *
+ * The walk takes 48 bytes of stack for each block. A field has 12 of them at most; who lends it more than a field, here
+ * or to tailsprig_block_of, needs the stack for it.
  */
 struct tailsprig_blocks_read tailsprig_blocks(const uint8_t *octets, size_t octets_len);
 

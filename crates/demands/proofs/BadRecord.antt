@@ -46,7 +46,7 @@ modes-good modes good =
     }
 
 -- a set that holds neither is such a number: what is outside is not there
-is-gone : (t : Bool) → (t ≡ true → ⊥) → t ≡ false
+pub is-gone : (t : Bool) → (t ≡ true → ⊥) → t ≡ false
 is-gone true gone = absurd (gone refl)
 is-gone false gone = refl
 

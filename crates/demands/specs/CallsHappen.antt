@@ -45,7 +45,7 @@ lastly event value = record { event = event; value = value; least = 0 }
 pub record CallsHappen : Type 0 where
   -- "Record A, data: items 1, 3, 4, 12, LAPM."; "answerer with items 3, 4, 8, no LAPM: .. choice item 3."
   pub goesOn : Happens 3 (forData (1 ∷ 3 ∷ 4 ∷ 12 ∷ []) 0 1 0) (forData (3 ∷ 4 ∷ 8 ∷ []) 0 0 0) [] (lastly cj 0) (callerHas 3) (answererHas 3 cj 0)
-  -- the same with a block in CM: its country code B5, an empty provider code, and "31 2E 34" as the rest
+  -- the same with a block in CM: its country code B5, an empty provider code, and 31 2E 34 as the rest
   pub withBlocks : Happens 3 (forData (1 ∷ 3 ∷ 4 ∷ 12 ∷ []) 0 1 0) (forData (3 ∷ 4 ∷ 8 ∷ []) 0 0 0) (5 ∷ 0xB5 ∷ 0 ∷ 0x31 ∷ 0x2E ∷ 0x34 ∷ []) (lastly cj 0) (callerHas 3) (answererHas 3 cj 0)
   -- without one, where "sigC of the chosen item" comes for CJ
   pub bySigC : Happens 3 (forData (1 ∷ 3 ∷ 4 ∷ 12 ∷ []) 0 1 0) (forData (3 ∷ 4 ∷ 8 ∷ []) 0 0 0) [] (lastly sigC 3) (callerHas 3) (answererHas 3 sigC 3)

@@ -36,7 +36,7 @@ pub record IsWrittenAsRead (heard octets : List ℕ) : Type 0 where
   pub packing : packed octets ≡ drop 1 (groupOf heard 15)
   pub own : (own : Record) (function : ℕ) → 0 < length octets → length (cmOf own function octets) ≤ 64 → groupOf (cmOf own function octets) 15 ≡ groupOf heard 15
 
--- what a group says, or why it is refused: "15", then "14", then "6"
+-- what a group says, or why it is refused: 15, then 14, then 6
 abbrev pub groupSays : List ℕ → List ℕ → WriteOutcome
 groupSays group out =
     put (firstOf (badlyPacked group ∷ badBlocks (unpacked (drop 1 group)) ∷ tooShort (unpacked (drop 1 group)) out ∷ [])) (unpacked (drop 1 group)) out

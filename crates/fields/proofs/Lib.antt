@@ -4,6 +4,7 @@ pub mod Pasted
 pub mod Packs
 pub mod Field
 pub mod Blocks
+pub mod Full
 pub mod Reading
 pub mod Parts
 pub mod Finding

@@ -57,7 +57,7 @@ module _ (block : List ℕ) where
       let country = ltb (countrySize block) (lengthOf block) in
       ap (λ (t : Bool). both (ltb (lengthOf block) (length block)) (both country t)) (lt-leb (codesSize block) (lengthOf block) long) ∙ ap (both (ltb (lengthOf block) (length block))) (both-neither country) ∙ both-neither (ltb (lengthOf block) (length block))
 
-  fit-by : lengthOf block < length block → countrySize block < lengthOf block → codesSize block ≤ lengthOf block → fits block ≡ true
+  pub fit-by : lengthOf block < length block → countrySize block < lengthOf block → codesSize block ≤ lengthOf block → fits block ≡ true
   unfolding both
   fit-by there country codes = simp (lt-ltb _ _ there, lt-ltb _ _ country, le-leb _ _ codes)
 
