@@ -2,9 +2,9 @@
 # rehearse.sh PROGRAM DIR: runs the rehearsing program on every DIR/NAME.call and compares what it prints, byte for byte,
 # with NAME.timeline, as a file and through a pipe in pieces of odd sizes, and does the same with the plan that stands above
 # each ladder; then on the same call in other words; then on texts that are wrong, each with the one line that it must get;
-# then on random plans, on every call cut off at every byte and on random bytes, which must get a plan and a ladder or one
-# line, and an end of the program that is no crash. Prints what differs; exits with 1 on a difference and with 2 where there
-# is nothing to run.
+# then on calls with blocks, which the answerer tells in words, or which get one line; then on random plans, on every call
+# cut off at every byte and on random bytes, which must get a plan and a ladder or one line, and an end of the program that
+# is no crash. Prints what differs; exits with 1 on a difference and with 2 where there is nothing to run.
 set -uo pipefail
 
 program=${1:?the rehearsing program}
@@ -51,6 +51,10 @@ mistakes=(
     'expected an octet of the blocks, two hex digits'
 )
 
+# Why CM cannot be made with the blocks of a plan.
+too_many='the blocks do not fit into a CM of 64 octets'
+no_blocks='the octets are not blocks: a block is longer than what remains, or a code does not fit in it'
+
 # text TEXT: the input of the next runs, with the escapes of printf %b.
 text() {
     printf '%b' "$1" >"$work/input"
@@ -84,6 +88,27 @@ refuses() {
     tried[$4]=1
 }
 
+# unmade NAME OCTETS LINE: a call with these octets for its blocks, and the one line that it must get.
+unmade() {
+    text "${whole}blocks $2"
+    printf '%s\n' "$3" >"$work/expected"
+    check "$program" "$1" "$work/input" "$work/expected" "${pieces[@]}"
+}
+
+# tells NAME LINES ROW..: a call with these lines behind it, and what must stand in rows of the answerer below a CM that it hears: the
+# rows without a time, up to the column of the answerer, from the first on that is no octet of CM.
+tells() {
+    local row
+    text "$whole$2"
+    for row in "${@:3}"; do printf '%s\n' "$row"; done >"$work/expected"
+    "$program" <"$work/input" | awk '
+        substr($0, 1, 5) != "     " { below = / hears$/; field = 0; next }
+        below && / (block [0-9]+:|its field )/ { field = 1 }
+        below && field { if (length($0) > 85) print "a row of " length($0) " columns"; sub(/^ */, ""); print }
+    ' >"$work/printed"
+    compare "$1" "$work/expected" "${PIPESTATUS[0]}"
+}
+
 # survives NAME: keeps what the text $work/input gets, whatever it is, for `sound`.
 survives() {
     runs=$((runs + 1))
@@ -96,7 +121,7 @@ survives() {
 # sound: all that `survives` kept is one line, or a plan and a ladder: its rows in columns, at most 100 of them, in the order of time,
 # no blanks at their ends, and how the call ended in the last line.
 sound() {
-    LC_ALL=C awk -v heading="$heading" '
+    LC_ALL=C awk -v heading="$heading" -v too_many="$too_many" -v no_blocks="$no_blocks" '
         function wrong(why) { printf "%s: %s\n", name, why }
         function ends(line,    choice, ended) {
             choice = " (item [1-9][0-2]? \\(V\\.[^()]*\\)|PCM \\([^()]*\\))"
@@ -108,6 +133,7 @@ sound() {
         }
         function look(    i, row, clock, before) {
             if (name == "" || n == 1 && line[1] ~ /^(line [0-9]+, (at its end|\047.*\047): |the text )./) return
+            if (n == 1 && (line[1] == too_many || line[1] == no_blocks)) return
             for (i = 1; i <= n; i++) if (line[i] ~ /[ \t\r]$/) return wrong("blanks at the end of " line[i])
             if (line[1] !~ /^caller    / || line[2] !~ /^answerer  /) return wrong("no ends: " line[1])
             if (line[3] !~ /^call      / || line[4] !~ /^Te        [0-9]+$/) return wrong("no call: " line[3])
@@ -186,13 +212,16 @@ understood 'the first function is the home function' "answerer videotex, H.324\n
 understood 'sixteen damaged bits in a line' "damaged caller $(seq -s ' ' 17 -1 1)\n${whole}damaged answerer $(seq -s ' ' 16)" \
     "$(plan <"$calls/v32bis.timeline")\ndamaged   caller $(seq -s ' ' 16)\ndamaged   caller 17\ndamaged   answerer $(seq -s ' ' 16)"
 understood 'octets in upper and lower case, in lines that stand anywhere' \
-    "blocks 05 b5\t01,4F # 00\n$caller\nBlocks aB\n$answerer\ndamaged caller 7\ncall data\nBLOCKS 0a 0A" \
-    "$(plan <"$calls/v32bis.timeline")\nblocks    05 B5 01 4F AB 0A 0A\ndamaged   caller 7"
-every_octet=$(printf '%02X ' {0..63} {64..255})
-understood 'sixteen octets in a line' "${whole}blocks ${every_octet:0:192}" \
-    "$(plan <"$calls/v32bis.timeline")\nblocks    ${every_octet:0:47}\nblocks    ${every_octet:48:47}\nblocks    ${every_octet:96:47}\nblocks    ${every_octet:144:47}"
+    "blocks 06 b5\t01,4F # 00\n$caller\nBlocks aB\n$answerer\ndamaged caller 7\ncall data\nBLOCKS 0a 0A" \
+    "$(plan <"$calls/v32bis.timeline")\nblocks    06 B5 01 4F AB 0A 0A\ndamaged   caller 7"
+# A block of 36 octets, which are the most that fit, and blocks with sixteen octets behind their codes.
+every_octet=$(printf '%02X ' {0..255})
+most="23 B5 00 ${every_octet:0:98}"
+understood 'sixteen octets in a line' "${whole}blocks $most" \
+    "$(plan <"$calls/v32bis.timeline")\nblocks    ${most:0:47}\nblocks    ${most:48:47}\nblocks    ${most:96:11}"
 for ((from = 0; from < 768; from += 48)); do
-    understood "octets from $((from / 3)) on" "${whole}blocks ${every_octet:from:47}" "$(plan <"$calls/v32bis.timeline")\nblocks    ${every_octet:from:47}"
+    octets="12 B5 00 ${every_octet:from:47}"
+    understood "octets from $((from / 3)) on" "${whole}blocks $octets" "$(plan <"$calls/v32bis.timeline")\nblocks    ${octets:0:47}\nblocks    ${octets:48}"
 done
 
 tried=()
@@ -298,6 +327,51 @@ if [ "${#tried[@]}" -ne 21 ]; then
     differ=$((differ + 1))
 fi
 
+unmade '37 octets' "24 B5 00 ${every_octet:0:101}" "$too_many"
+unmade '37 octets in many blocks' "$(printf '02 B5 00 %.0s' {1..11}) 03 B5 00 41" "$too_many"
+unmade '64 octets' "3F B5 00 ${every_octet:0:182}" "$too_many"
+unmade '65 octets' "40 B5 00 ${every_octet:0:185}" "$too_many"
+unmade '256 octets in lines' "FF B5 00 ${every_octet:0:30}\nblocks ${every_octet:30:729}" "$too_many"
+unmade 'too many octets, which are no blocks either' "${every_octet:0:110}" "$too_many"
+unmade 'a block of nothing' 00 "$no_blocks"
+unmade 'a length alone' 01 "$no_blocks"
+unmade 'a block that is longer than what remains' '05 B5 01 41 31' "$no_blocks"
+unmade 'a block without the length of a provider code' '01 B5' "$no_blocks"
+unmade 'a country code without an end' '02 FF FF' "$no_blocks"
+unmade 'a country code that takes the whole block' '02 FF B5' "$no_blocks"
+unmade 'a provider code that does not fit' '03 B5 02 41' "$no_blocks"
+unmade 'a provider code that fits into all blocks alone' '03 B5 02 41 02 B5 00' "$no_blocks"
+unmade 'a second block of nothing' '02 B5 00 00' "$no_blocks"
+refuses 'a mistake behind octets that are no blocks' "${whole}blocks 00\nTe 400" "line 5, '400'" 6
+text "caller data V.34 PCM-digital wants LAPM wants access\n$answerer\ncall data\nblocks $most"
+printf '%s\n' "$too_many" >"$work/expected"
+check "$program" '36 octets behind every group' "$work/input" "$work/expected" "${pieces[@]}"
+
+level='blocks 07 B5 02 00 41 32 2E 37'
+level_told='block 1: country B5, provider 00 41, rest 32 2E 37 "2.7"'
+tells 'no blocks' ''
+tells 'a block with all its parts' "$level" "$level_told"
+tells 'a block with its codes alone' 'blocks 02 B5 00' 'block 1: country B5, no provider code, no rest'
+tells 'a long country code, a provider code and no rest' 'blocks 05 FF FF 26 01 00' 'block 1: country FF FF 26, provider 00, no rest'
+tells 'several blocks' "blocks 02 B5 00\nblocks 03 00 00 41 04 B5 01 FF 00" 'block 1: country B5, no provider code, no rest' \
+    'block 2: country 00, no provider code, rest 41 "A"' 'block 3: country B5, provider FF, rest 00'
+tells 'the first and the last that is printable' 'blocks 06 B5 00 20 22 5C 7E' 'block 1: country B5, no provider code, rest 20 22 5C 7E " "\~"'
+for octet in 1F 7F 80 A0 FF; do
+    tells "$octet is not printable" "blocks 06 B5 00 41 42 $octet 43" "block 1: country B5, no provider code, rest 41 42 $octet 43"
+done
+tells 'a field that takes several rows' "blocks 23 B5 00 ${every_octet:195:98}\nTe 500" \
+    'block 1: country B5, no provider code, rest 41 42 43 44 45 46' '47 48 49 4A 4B 4C 4D 4E 4F 50 51 52 53 54 55 56 57 58 59 5A 5B' \
+    '5C 5D 5E 5F 60 61 "ABCDEFGHIJKLMNOPQRSTUVWXYZ[\]^_`a"'
+tells 'ten blocks' "blocks $(printf '02 B5 00 %.0s' {1..10})\nTe 500" "$(printf 'block %s: country B5, no provider code, no rest\n' {1..10})"
+# The first copy of CM begins with bit 600, and the octet of a number, from 0 on, with bit 620 + 10 * number: the call function has 0, the
+# category octet of the field 5, its last octet, in which one bit is left over, 18.
+tells 'a block that is damaged' "$level\ndamaged caller 681" 'its field is refused with 14' "$level_told"
+tells 'a bit left over that is damaged' "$level\ndamaged caller 808" 'its field is refused with 15' "$level_told"
+tells 'an option that is damaged' "$level\ndamaged caller 678" 'its field is refused with 15' "$level_told"
+tells 'another tag by damage' "$level\ndamaged caller 671" "$level_told"
+tells 'no call function by damage' "$level\ndamaged caller 621" "$level_told"
+tells 'a level by damage' "$level\ndamaged caller 761" 'block 1: country B5, provider 00 41, rest 33 2E 37 "3.7"' "$level_told"
+
 # No text gets the help, with every name in it.
 "$program" </dev/null >"$work/printed"
 head -n 1 "$work/printed" >"$work/input"
@@ -349,8 +423,9 @@ random_call() {
             print end("caller", called); print end("answerer", 1 + below(6)); print "call " function_of[called]
             if (below(2)) print "Te " 500 + below(4501)
             for (i = below(4); i > 0; i--) {
-                printf "blocks"
-                for (j = below(20); j >= 0; j--) printf(below(2) ? " %02X" : " %02x", below(256))
+                provider = below(3); rest = below(5)
+                printf "blocks %02x %02X %02X", 2 + provider + rest, below(255), provider
+                for (j = provider + rest; j > 0; j--) printf(below(2) ? " %02X" : " %02x", below(2) ? 32 + below(95) : below(256))
                 print ""
             }
             for (i = below(40); i > 0; i--) print "damaged " (below(2) ? "caller " : "answerer ") 600 + below(700)
@@ -382,13 +457,13 @@ random() {
     }' "$@"
 }
 mapfile -t bytes < <(LC_ALL=C awk 'BEGIN { for (i = 1; i < 256; i++) if (i != 10) printf "%c\n", i }')
-read -ra words <<<"$lines $functions $modes $other_modes $parts $wanted $qualities $access 500 0 8999 9000 05 b5 # ,"
+read -ra words <<<"$lines $functions $modes $other_modes $parts $wanted $qualities $access 500 0 8999 9000 02 b5 00 # ,"
 for ((n = 1; n <= 40; n++)); do
     random "$n" $((n * n * 31)) '' "${bytes[@]}" $'\n' >"$work/input"
     survives "random bytes, run $n"
     { printf 'caller data '; random "$n" "$n" ' ' "${words[@]}" $'\n' data V.34 home wants; } >"$work/input"
     survives "random words, run $n"
-    { printf '%b' "$whole"; random "$n" "$n" $'\n' 'damaged caller 610 681' 'damaged answerer 760' 'blocks 05 b5' '# Te' ''; } >"$work/input"
+    { printf '%b' "$whole"; random "$n" "$n" $'\n' 'damaged caller 610 681' 'damaged answerer 760' 'blocks 03 b5' 'blocks 00 02' 'blocks 02 B5 00' '# Te' ''; } >"$work/input"
     survives "random lines behind a call, run $n"
 done
 

@@ -5,9 +5,13 @@ use super::words;
 use super::words::Text;
 use super::words::blank;
 use super::words::put_words;
+use fields::Block;
+use fields::Span;
 use libc::STDOUT_FILENO;
 use menus::Offer;
 use menus::ReadMenu;
+use refusals::Refusal;
+use refusals::Wrote;
 use std::num::wrapping_add_u8;
 use std::num::wrapping_add_usize;
 use std::num::wrapping_sub_usize;
@@ -59,10 +63,10 @@ pub fn say(text: Text) {
     io::write_all(STDOUT_FILENO, line::part(&bytes, n + 1));
 }
 
-// Octets, a blank before each and two before the first.
-fn put_octets(text: Text, octets: &[u8]) -> Text {
+// Octets, a blank before each, and so many more before the first.
+fn put_octets(text: Text, apart: usize, octets: &[u8]) -> Text {
     let mut bytes = text.bytes;
-    let mut n = wrapping_add_usize(text.len, least(octets.len(), 1));
+    let mut n = wrapping_add_usize(text.len, apart);
     let mut i: usize = 0;
     while i < octets.len() {
         n = printing::put_octet(&mut bytes, wrapping_add_usize(n, 1), octets[i]);
@@ -118,7 +122,7 @@ fn menu_text(name: u8, octets: &[u8]) -> Text {
     let named = words::put_named(blank(), name, 0, sets);
     let offered = words::put_named(named, words::MODES, is_some, sets);
     let all = words::put_named(offered, words::OPTIONS, options_of(offer), sets);
-    put_octets(all, octets)
+    put_octets(all, least(octets.len(), 1), octets)
 }
 
 // The lesser of two numbers.
@@ -232,11 +236,12 @@ fn put_outcome(text: Text, group: u8, number: u8, session: Session) -> Text {
 pub fn entered(line: Line, now: u32) {
     let session = line.session;
     let menu = line.menu;
+    let octets = menu.octets;
     let state = session.state;
     let number = wrapping_add_u8(state, session.ended);
     let sent = wrapping_add_u8(words::SENDS, state);
     let text = match state {
-        steps::MENU | steps::JOINT => menu_text(sent, line::part(&menu, line.menu_len)),
+        steps::MENU | steps::JOINT => menu_text(sent, line::menu_part(&octets, menu.len)),
         _ => put_outcome(blank(), words::SENDS, number, session),
     };
     tell(now, session.end, state, text);
@@ -248,7 +253,96 @@ pub fn chosen(session: Session, choice: u8, now: u32) {
     tell(now, session.end, REPORTS + line::AGREED, text);
 }
 
-// What was heard. A menu has its name by the end that hears it.
+// A part of octets, or none where they end before it.
+fn part_of(octets: &[u8], span: Span) -> &[u8] {
+    let from = span.place;
+    if from <= octets.len() {
+        return line::part(&octets[from..], span.size);
+    }
+    &octets[0..0]
+}
+
+// A part that a block may lack, by the number of the text that says so; the one behind it leads its octets.
+fn put_part(text: Text, lacking: u8, octets: &[u8]) -> Text {
+    let len = octets.len();
+    match len {
+        0 => put_words(text, lacking, 0),
+        _ => put_octets(put_words(text, lacking, 1), 0, octets),
+    }
+}
+
+fn is_printable(octets: &[u8]) -> bool {
+    let mut i: usize = 0;
+    while i < octets.len() {
+        let b = octets[i];
+        if words::shown(b) != b {
+            return false;
+        }
+        i += 1;
+    }
+    0 < i
+}
+
+// Octets as characters, where there are some and all of them are printable.
+fn put_quoted(text: Text, octets: &[u8]) -> Text {
+    if is_printable(octets) {
+        let opened = words::put(words::put(text, b' '), b'"');
+        return words::put(words::put_shown(opened, octets), b'"');
+    }
+    text
+}
+
+// A block of a field in words.
+fn block_text(octets: &[u8], block: Block, number: usize) -> Text {
+    let first = put_words(blank(), words::BLOCK, 0);
+    let counted = words::put_number(first, first.len, number as u64);
+    let country = put_octets(
+        put_words(counted, words::COUNTRY, 0),
+        0,
+        part_of(octets, block.country),
+    );
+    let provider = put_part(country, words::PROVIDER, part_of(octets, block.provider));
+    let rest = part_of(octets, block.rest);
+    put_quoted(put_part(provider, words::REST, rest), rest)
+}
+
+// The blocks of a field, each in rows below what was heard. There are no more of them than octets.
+fn tell_blocks(octets: &[u8]) {
+    let mut place: usize = 0;
+    let mut number: usize = 0;
+    while number < octets.len() {
+        let block = fields::block_at(octets, place);
+        let size = block.whole.size;
+        if size == 0 {
+            return;
+        }
+        number += 1;
+        tell(0, steps::ANSWERER, 0, block_text(octets, block, number));
+        place = wrapping_add_usize(place, size);
+    }
+}
+
+// Why the field of a menu is refused; a menu that cannot be read is refused whole, and of its field nothing is told.
+fn tell_refused(refusal: Refusal) {
+    let text = match refusal {
+        Refusal::BadBlock => put_words(blank(), words::BAD_FIELD, 0),
+        Refusal::BadPacking => put_words(blank(), words::BAD_FIELD, 1),
+        _ => blank(),
+    };
+    tell(0, steps::ANSWERER, 0, text);
+}
+
+// The field of a CM that was heard.
+fn tell_field(cm: &[u8]) {
+    let mut octets = [0u8; line::MOST_OCTETS];
+    let wrote = fields::read_field(cm, &mut octets);
+    match wrote {
+        Wrote::Count(len) => tell_blocks(line::menu_part(&octets, len)),
+        Wrote::Refused(refusal) => tell_refused(refusal),
+    }
+}
+
+// What was heard. A menu has its name by the end that hears it. Below a CM that is not agreed yet stands what its field says.
 pub fn heard(session: Session, told: u8, octets: &[u8], now: u32) {
     let menu = wrapping_add_u8(words::MENUS, session.end);
     let name = match told {
@@ -262,6 +356,9 @@ pub fn heard(session: Session, told: u8, octets: &[u8], now: u32) {
         wrapping_add_u8(REPORTS, told),
         menu_text(name, octets),
     );
+    if told == line::MENU && session.end == steps::ANSWERER {
+        tell_field(octets);
+    }
 }
 
 // Whether both ends ended in the same way; a choice counts where they go on with it.

@@ -8,18 +8,27 @@ use plans::Plan;
 use refusals::Wrote;
 use steps::Session;
 
-// Room for the bits of one copy of a menu that we made, for CJ behind it, and for the 1 that is sent where there is nothing to send; where
-// these stand, and where CJ ends.
-const MOST_BITS: usize = 121;
-
-const CJ_AT: usize = 90;
-
-const LAST_OF_CJ: usize = 119;
-
-const IDLE: usize = 120;
+// How many octets a menu has at most.
+pub const MOST_OCTETS: usize = 64;
 
 // How many bits an octet takes on the line.
 const OCTET_BITS: usize = 10;
+
+// Room for the bits of one copy of the longest menu, for CJ behind it, and for the 1 that is sent where there is nothing to send; where
+// these stand, and where CJ ends.
+const MOST_BITS: usize = 691;
+
+const CJ_AT: usize = 660;
+
+const LAST_OF_CJ: usize = 689;
+
+const IDLE: usize = 690;
+
+// A menu that was made, and how many octets it has.
+pub struct Made {
+    pub octets: [u8; MOST_OCTETS],
+    pub len: usize,
+}
 
 // What a host keeps for each line: what is planned; the CM or JM of this end; one copy of it, CJ and a 1, a byte for each bit; how many bits the
 // copy has, and how many of what is sent are on the line; the bit that is sent now; the last report.
@@ -27,8 +36,7 @@ pub struct Line {
     pub plan: Plan,
     pub session: Session,
     pub ear: Listener,
-    pub menu: [u8; 7],
-    pub menu_len: usize,
+    pub menu: Made,
     pub bits: [u8; MOST_BITS],
     pub len: usize,
     pub sent: usize,
@@ -56,8 +64,10 @@ pub fn line_start(session: Session, plan: Plan) -> Line {
         plan: plan,
         session: session,
         ear: listening::fresh_line(),
-        menu: [0u8; 7],
-        menu_len: 0,
+        menu: Made {
+            octets: [0u8; MOST_OCTETS],
+            len: 0,
+        },
         bits: [1u8; MOST_BITS],
         len: 0,
         sent: 0,
@@ -81,26 +91,22 @@ pub fn part(bytes: &[u8], len: usize) -> &[u8] {
     &bytes[0..0]
 }
 
+// The octets of a menu, of the room that it has. The room's length is in its type, which spares each caller the proof of it.
+pub fn menu_part(octets: &[u8; MOST_OCTETS], len: usize) -> &[u8] {
+    part(octets, len)
+}
+
 // A menu that this end made, with one copy of its bits, and CJ.
-fn with_menu(line: Line, menu: [u8; 7], menu_len: usize) -> Line {
+pub fn with_menu(line: Line, menu: Made) -> Line {
+    let octets = menu.octets;
     let mut bits = [1u8; MOST_BITS];
-    let wrote = sequences::write(Kind::Menu, part(&menu, menu_len), 1, &mut bits);
+    let wrote = sequences::write(Kind::Menu, menu_part(&octets, menu.len), 1, &mut bits);
     sequences::write_cj(&mut bits[CJ_AT..]);
     let mut next = line;
     next.menu = menu;
-    next.menu_len = menu_len;
     next.bits = bits;
     next.len = count_of(wrote);
     next
-}
-
-// A caller with its CM.
-pub fn with_cm(line: Line) -> Line {
-    let plan = line.plan;
-    let own = plans::record_of(plan, steps::CALLER);
-    let mut menu = [0u8; 7];
-    let wrote = offers::make_cm(own, plan.function, &mut menu);
-    with_menu(line, menu, count_of(wrote))
 }
 
 // An event, with its time. A state that is entered is told.
@@ -190,16 +196,21 @@ fn line_chosen(line: Line, event: u8, choice: u8, now: u32) -> Line {
 // A CM to answer with the JM for it. A good record and an agreed menu are not refused.
 fn hear_cm(line: Line, cm: &[u8], now: u32) -> Line {
     let own = plans::record_of(line.plan, steps::ANSWERER);
-    let mut menu = [0u8; 7];
-    let len = count_of(offers::make_jm(own, cm, &mut menu));
-    let choice = choose(cm, part(&menu, len));
-    line_chosen(with_menu(line, menu, len), steps::AGREED_CM, choice, now)
+    let mut octets = [0u8; MOST_OCTETS];
+    let len = count_of(offers::make_jm(own, cm, &mut octets));
+    let choice = choose(cm, menu_part(&octets, len));
+    let jm = Made {
+        octets: octets,
+        len: len,
+    };
+    line_chosen(with_menu(line, jm), steps::AGREED_CM, choice, now)
 }
 
 // The answer to the caller's CM.
 fn hear_jm(line: Line, jm: &[u8], now: u32) -> Line {
-    let menu = line.menu;
-    let choice = choose(part(&menu, line.menu_len), jm);
+    let cm = line.menu;
+    let octets = cm.octets;
+    let choice = choose(menu_part(&octets, cm.len), jm);
     line_chosen(line, steps::AGREED_JM, choice, now)
 }
 
@@ -249,14 +260,14 @@ fn line_report(line: Line, told: u8, heard: &[u8], now: u32) -> Line {
 }
 
 // The octets of a message that is reported; none for CJ and refusals.
-fn octets_in(octets: &[u8; 64], len: u8, told: u8) -> &[u8] {
+fn octets_in(octets: &[u8; MOST_OCTETS], len: u8, told: u8) -> &[u8] {
     let count = match told {
         CI => len,
         MENU => len,
         AGREED => len,
         _ => 0,
     };
-    part(octets, count as usize)
+    menu_part(octets, count as usize)
 }
 
 // A bit from the line. An end that is over hears nothing: its line is in another modulation, or cleared.

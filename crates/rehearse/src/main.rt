@@ -1,6 +1,6 @@
 // Rehearses a call: reads a call text, runs both ends over a line of 300 bit/s, and prints the plan as it was understood and a ladder
-// of the call: when each end enters which state, what it sends and hears, and what it goes on with. What is wrong with a text is told in
-// one line, and nothing is rehearsed; where there is no text, what one looks like.
+// of the call: when each end enters which state, what it sends and hears, and what it goes on with. What is wrong with a text or with its
+// blocks is told in one line, and nothing is rehearsed; where there is no text, what one looks like.
 mod ladder;
 mod line;
 mod words;
@@ -9,7 +9,11 @@ use ladder::say;
 use libc::STDIN_FILENO;
 use libc::STDOUT_FILENO;
 use line::Line;
+use line::MOST_OCTETS;
+use line::Made;
 use plans::Plan;
+use refusals::Refusal;
+use refusals::Wrote;
 use steps::Session;
 use steps::Started;
 use words::Text;
@@ -30,9 +34,6 @@ const MOST_SHOWN: usize = 40;
 
 // How many bits both ends send.
 const LINE_BITS: usize = 2 * plans::BIT_TIMES;
-
-// How many octets of blocks are taken.
-const MOST_OCTETS: usize = 64;
 
 // How many lines say what a call text looks like.
 const HELP_LINES: u8 = 20;
@@ -91,8 +92,8 @@ fn is_over(ends: Ends) -> bool {
 }
 
 // Runs the call until both ends are over, or the time is.
-fn run(plan: Plan, first: Session, damaged: &[u8]) -> Ends {
-    let caller = line::with_cm(line::line_start(first, plan));
+fn run(plan: Plan, first: Session, cm: Made, damaged: &[u8]) -> Ends {
+    let caller = line::with_menu(line::line_start(first, plan), cm);
     let answerer = line::line_start(steps::start_answerer(0), plan);
     ladder::entered(caller, 0);
     ladder::entered(answerer, 0);
@@ -112,9 +113,9 @@ fn run(plan: Plan, first: Session, damaged: &[u8]) -> Ends {
 }
 
 // The ladder of a call, and how it ended.
-fn put_ladder(plan: Plan, first: Session, damaged: &[u8]) {
+fn put_ladder(plan: Plan, first: Session, cm: Made, damaged: &[u8]) {
     say(put_words(blank(), words::HEADING, 0));
-    let ends = run(plan, first, damaged);
+    let ends = run(plan, first, cm, damaged);
     if is_over(ends) {
         say(ladder::ending(ends.caller.session, ends.answerer.session));
         return;
@@ -129,38 +130,45 @@ fn put_plan(plan: Plan, blocks: &[u8], damaged: &[u8]) {
     io::write_all(STDOUT_FILENO, line::part(&page, n));
 }
 
-// The plan, and the ladder of its call. A plan has a Te that a caller starts with.
-fn call(text: &[u8], plan: Plan) {
+// The plan, and the ladder of its call with this CM. A plan has a Te that a caller starts with.
+fn put_call(text: &[u8], plan: Plan, blocks: &[u8], cm: Made) {
     let mut damaged = undamaged();
     plans::mark(text, &mut damaged);
-    let mut octets = [0u8; MOST_OCTETS];
-    let count = plans::put_blocks(text, &mut octets);
-    let len = ladder::least(count, MOST_OCTETS);
-    put_plan(plan, line::part(&octets, len), &damaged);
+    put_plan(plan, blocks, &damaged);
     say(blank());
     let started = steps::start_caller(0, plan.te as u32);
     match started {
-        Started::Ready(first) => put_ladder(plan, first, &damaged),
+        Started::Ready(first) => put_ladder(plan, first, cm, &damaged),
         Started::Refused(_) => {}
     }
 }
 
-// A byte as it is shown.
-fn shown(b: u8) -> u8 {
-    match b {
-        b' '..=b'~' => b,
-        _ => b'?',
+// Why there is no CM for a plan: its blocks do not fit, or are none.
+fn unmade(refusal: Refusal) -> Text {
+    match refusal {
+        Refusal::TooManyOctets => put_words(blank(), words::UNMADE, 0),
+        _ => put_words(blank(), words::UNMADE, 1),
     }
 }
 
-fn put_word(text: Text, word: &[u8]) -> Text {
-    let mut next = text;
-    let mut i: usize = 0;
-    while i < word.len() {
-        next = words::put(next, shown(word[i]));
-        i += 1;
+// A plan: its call, where CM can be made with its blocks. As many octets as a menu has at most are more than fit into its field.
+fn call(text: &[u8], plan: Plan) {
+    let mut octets = [0u8; MOST_OCTETS];
+    let count = plans::put_blocks(text, &mut octets);
+    let blocks = line::menu_part(&octets, ladder::least(count, MOST_OCTETS));
+    let own = plans::record_of(plan, steps::CALLER);
+    let mut made = [0u8; MOST_OCTETS];
+    let wrote = offers::make_cm(own, plan.function, blocks, &mut made);
+    match wrote {
+        Wrote::Count(len) => {
+            let cm = Made {
+                octets: made,
+                len: len,
+            };
+            put_call(text, plan, blocks, cm);
+        }
+        Wrote::Refused(refusal) => say(unmade(refusal)),
     }
-    next
 }
 
 // Where a mistake stands in its line: at a word, which is cut off where it is long, or at the end.
@@ -171,7 +179,7 @@ fn put_place(text: Text, word: &[u8]) -> Text {
     let len = ladder::least(word.len(), MOST_SHOWN);
     let before = put_words(text, words::BEFORE_WORD, 0);
     put_words(
-        put_word(before, line::part(word, len)),
+        words::put_shown(before, line::part(word, len)),
         words::BEHIND_WORD,
         0,
     )

@@ -38,21 +38,33 @@ pub const MODES: u8 = 128;
 
 pub const OPTIONS: u8 = 130;
 
-pub const LINE: u8 = 134;
+pub const BLOCK: u8 = 134;
 
-pub const AT_END: u8 = 135;
+pub const COUNTRY: u8 = 135;
 
-pub const BEFORE_WORD: u8 = 136;
+pub const PROVIDER: u8 = 136;
 
-pub const BEHIND_WORD: u8 = 137;
+pub const REST: u8 = 138;
 
-pub const MISTAKES: u8 = 138;
+pub const BAD_FIELD: u8 = 140;
 
-pub const TOO_LONG: u8 = 160;
+pub const LINE: u8 = 142;
 
-pub const HEADING: u8 = 161;
+pub const AT_END: u8 = 143;
 
-pub const HELP: u8 = 162;
+pub const BEFORE_WORD: u8 = 144;
+
+pub const BEHIND_WORD: u8 = 145;
+
+pub const MISTAKES: u8 = 146;
+
+pub const TOO_LONG: u8 = 168;
+
+pub const UNMADE: u8 = 169;
+
+pub const HEADING: u8 = 171;
+
+pub const HELP: u8 = 172;
 
 // A text with nothing in it.
 pub fn blank() -> Text {
@@ -69,6 +81,25 @@ pub fn put(text: Text, b: u8) -> Text {
     if at < ROOM {
         next.bytes[at] = b;
         next.len = at + 1;
+    }
+    next
+}
+
+// A byte as it is shown.
+pub fn shown(b: u8) -> u8 {
+    match b {
+        b' '..=b'~' => b,
+        _ => b'?',
+    }
+}
+
+// Bytes behind a text, as they are shown.
+pub fn put_shown(text: Text, bytes: &[u8]) -> Text {
+    let mut next = text;
+    let mut i: usize = 0;
+    while i < bytes.len() {
+        next = put(next, shown(bytes[i]));
+        i += 1;
     }
     next
 }
@@ -248,6 +279,14 @@ the ends differ: the caller
 , LAPM
 , access\x09
 , LAPM, access\x09
+ block\x20
+: country
+, no provider code
+, provider
+, no rest
+, rest
+ its field is refused with 14
+ its field is refused with 15
 line\x20
 , at its end:\x20
 , '
@@ -275,6 +314,8 @@ the caller has not the function of the call
 expected an octet of the blocks, two hex digits
 expected an octet of the blocks, two hex digits
 the text is longer than 131071 bytes
+the blocks do not fit into a CM of 64 octets
+the octets are not blocks: a block is longer than what remains, or a code does not fit in it
    ms  caller                                                                         answerer
 A call text says what both ends can do, and what the caller calls for:
 

@@ -14,8 +14,8 @@ abbrev μ-loop : tie.MeasureT-loop
 line-start-requires : tie.Need-line-start-requires Inv-loop μ-loop
 line-start-requires c κs = search needs
 
-with-cm-requires : tie.Need-with-cm-requires Inv-loop μ-loop
-with-cm-requires c κs = search needs
+with-menu-requires : tie.Need-with-menu-requires Inv-loop μ-loop
+with-menu-requires c κs = search needs
 
 start-answerer-requires : tie.Need-start-answerer-requires Inv-loop μ-loop
 start-answerer-requires c κs = search needs
@@ -60,7 +60,7 @@ run-spec =
     Inv-loop
     μ-loop
     line-start-requires
-    with-cm-requires
+    with-menu-requires
     start-answerer-requires
     line-start-requires-2
     entered-requires

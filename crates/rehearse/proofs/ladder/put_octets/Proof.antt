@@ -8,13 +8,10 @@ use Rattle.rehearse.proofs.ladder.put_octets.Statement.{statement}
 use Rattle.rehearse.proofs.ladder.put_octets.Tie as tie
 
 abbrev Inv-loop : tie.InvT-loop
-Inv-loop octets bytes₀ n₀ i₀ bytes n i = length bytes ≡ 640
+Inv-loop apart octets bytes₀ n₀ i₀ bytes n i = length bytes ≡ 640
 
 abbrev μ-loop : tie.MeasureT-loop
-μ-loop octets bytes₀ n₀ i₀ bytes n i = length octets - i
-
-least-requires : tie.Need-least-requires Inv-loop μ-loop
-least-requires c κs = search needs
+μ-loop apart octets bytes₀ n₀ i₀ bytes n i = length octets - i
 
 wrapping-add-usize-requires : tie.Need-wrapping-add-usize-requires Inv-loop μ-loop
 wrapping-add-usize-requires c κs = search needs
@@ -52,7 +49,6 @@ put-octets-spec =
     (tie.spec
     Inv-loop
     μ-loop
-    least-requires
     wrapping-add-usize-requires
     loop-holds
     slice-aggregate-put-octet

@@ -1,16 +1,16 @@
--- `rehearse::put_word` is safe and ends. Invariant: the place is at most that behind the end.
+-- `rehearse::words::put_shown` is safe and ends. Invariant: the place is at most that behind the end.
 -- Assumes nothing.
 use borrow.Author.Needs.{needs}
 use Prim.Native.Nat.{_≤_, _-_}
 use lib.ListN.{length}
-use Rattle.rehearse.proofs.put_word.Statement.{statement}
-use Rattle.rehearse.proofs.put_word.Tie as tie
+use Rattle.rehearse.proofs.words.put_shown.Statement.{statement}
+use Rattle.rehearse.proofs.words.put_shown.Tie as tie
 
 abbrev Inv-loop : tie.InvT-loop
-Inv-loop word next₀ i₀ next i = i ≤ length word
+Inv-loop bytes next₀ i₀ next i = i ≤ length bytes
 
 abbrev μ-loop : tie.MeasureT-loop
-μ-loop word next₀ i₀ next i = length word - i
+μ-loop bytes next₀ i₀ next i = length bytes - i
 
 loop-holds : tie.Need-loop-holds Inv-loop μ-loop
 loop-holds c = search needs
@@ -36,8 +36,8 @@ loop-again c = search needs
 returns : tie.Need-returns Inv-loop μ-loop
 returns c = search needs
 
-pub put-word-spec : {M : Type 1} → statement M
-put-word-spec =
+pub put-shown-spec : {M : Type 1} → statement M
+put-shown-spec =
     tie.close
     (tie.spec
     Inv-loop
