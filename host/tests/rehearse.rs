@@ -1,15 +1,17 @@
 //! The program `rehearse`, through the words of its call texts: it understands what both ends can do as it was said, and ends the call
 //! as the model of document 01 says. Both ends go on with what the model chooses from the CM and the JM that it makes of the same two
-//! records, or the call is cleared, or the text gets the line for what is wrong with a record or with the function of the call.
+//! records, or the call is cleared, or the text gets the line for what is wrong with a record or with the function of the call, or with
+//! the caller's blocks. Below each CM that the answerer hears stand the blocks that the model reads in it.
 use std::{
     collections::{BTreeMap, BTreeSet},
     fs,
     io::Write,
+    ops::Range,
     path::{Path, PathBuf},
     process::{Command, Stdio},
 };
 use tailsprig::{
-    model::{Choice, End, Function, Kind, Menu, Model, Record, Refusal, Session},
+    model::{Block, Choice, End, Function, Kind, Menu, Model, Record, Refusal, Session},
     numbers, text,
 };
 
@@ -56,6 +58,12 @@ const HEADING: &str = "   ms  caller                                            
 const HOME_NOT_HAD: &str = "the home function is not among the functions of the end";
 const PCM_ALONE: &str = "PCM-analogue and PCM-digital are offered beside V.34 alone";
 const CALL_NOT_HAD: &str = "the caller has not the function of the call";
+
+const TOO_MANY: &str = "the blocks do not fit into a CM of 64 octets";
+const NO_BLOCKS: &str = "the octets are not blocks: a block is longer than what remains, or a code does not fit in it";
+
+/// How a call ends whose CM is agreed too late.
+const LATE: &str = "the ends differ: the caller gave up, late; the answerer left";
 
 /// Marsaglia's xorshift: the same numbers in every run.
 struct Random(u64);
@@ -106,10 +114,33 @@ impl Random {
         }
     }
 
-    /// Octets of blocks, or none.
+    /// Octets of blocks, which may be too many, or none. One in eight are any octets, and hardly ever blocks.
     fn blocks(&mut self) -> Vec<u8> {
-        let count = if self.one_in(2) { 0 } else { self.below(40) };
-        (0..count).map(|_| self.below(256) as u8).collect()
+        match self.below(8) {
+            0 => {
+                let count = self.below(70);
+                self.octets(count)
+            }
+            1..=3 => Vec::new(),
+            _ => (0..1 + self.below(3)).flat_map(|_| self.block()).collect(),
+        }
+    }
+
+    fn block(&mut self) -> Vec<u8> {
+        let full = if self.one_in(4) { self.below(3) } else { 0 };
+        let (country, provider, rest) = (self.below(255) as u8, self.below(4), self.below(12));
+        let mut block = vec![255; full];
+        block.extend([country, provider as u8]);
+        block.extend(self.octets(provider));
+        block.extend(self.octets(rest));
+        block.insert(0, block.len() as u8);
+        block
+    }
+
+    /// So many octets, all of them printable half of the time.
+    fn octets(&mut self, count: usize) -> Vec<u8> {
+        let (lowest, values) = if self.one_in(2) { (b' ', 95) } else { (0, 256) };
+        (0..count).map(|_| lowest + self.below(values) as u8).collect()
     }
 
     /// A function, most often one that the caller has.
@@ -269,10 +300,26 @@ impl Call {
         end(0).or_else(|| end(1)).or_else(call)
     }
 
+    /// The line that the call gets where nothing is wrong with its text, and the model makes no CM with the caller's blocks.
+    fn unmade(&self) -> Option<&'static str> {
+        match Model::default().cm(&self.ends[0], self.function, &self.blocks, 64) {
+            Err(Refusal(4)) => Some(TOO_MANY),
+            Err(Refusal(14)) => Some(NO_BLOCKS),
+            _ => None,
+        }
+    }
+
+    /// Whether CM is agreed while the answerer waits, on a line without damage. CM begins with the first bit behind Te, which counts from
+    /// 1,000 ms on; it is agreed with the last of the ten 1s behind its second copy. The answerer leaves at 5,200 ms, with bit 1560.
+    fn in_time(&self, cm: &[u8]) -> bool {
+        let begins = ((1000 + self.te()) * 3).div_ceil(10);
+        begins + 2 * (20 + 10 * cm.len()) + 10 <= 1560
+    }
+
     /// CM, JM for it and the choice, as the model makes them of a call that nothing is wrong with.
     fn made(&self) -> (Vec<u8>, Vec<u8>, Choice) {
         let model = Model::default();
-        let cm = model.cm(&self.ends[0], self.function, &[], 64).expect("the caller has the function");
+        let cm = model.cm(&self.ends[0], self.function, &self.blocks, 64).expect("the caller has the function");
         let jm = model.jm(&self.ends[1], &cm, 64).expect("a good record answers every CM");
         let choice = model.choice(&cm, &jm).expect("what we answer was offered");
         (cm, jm, choice)
@@ -328,12 +375,64 @@ fn rehearsed(call: &str) -> String {
     String::from_utf8(output.stdout).expect("the program prints text")
 }
 
-/// What happens to an end, with the text for it, which may take several rows.
+/// What happens to an end, with the text for it, which may take several rows, and what stands below it of a field.
 struct Event {
     now: u32,
     answerer: bool,
     what: String,
     text: Vec<String>,
+    field: Vec<String>,
+}
+
+impl Event {
+    /// What must stand below it: the field of a CM that the answerer hears, as the model reads it. Nothing below all else.
+    fn field_heard(&self) -> Vec<String> {
+        match self.text.first() {
+            Some(name) if self.answerer && self.what == "hears" && name.starts_with("CM") => {
+                field(&octets_of(&self.text.join(" ")))
+            }
+            _ => Vec::new(),
+        }
+    }
+}
+
+/// The words of a row. An arrow is no text.
+fn words(row: &str) -> impl Iterator<Item = String> + '_ {
+    let words = row.split_whitespace().filter(|word| !word.trim_matches(['<', '>']).chars().all(|c| c == '-'));
+    words.map(str::to_string)
+}
+
+/// What the ladder says of the field of a heard menu: each of its blocks, or that it is refused. Of a menu that cannot be read it says
+/// nothing.
+fn field(heard: &[u8]) -> Vec<String> {
+    let model = Model::default();
+    let said = match model.fields(heard, 64) {
+        Ok(octets) => {
+            let blocks = model.blocks(&octets).expect("a field that is read has blocks");
+            blocks.iter().enumerate().map(|(place, block)| block_said(place + 1, &octets, block)).collect()
+        }
+        Err(Refusal(number @ (14 | 15))) => vec![format!("its field is refused with {number}")],
+        Err(_) => Vec::new(),
+    };
+    words(&said.join(" ")).collect()
+}
+
+fn block_said(number: usize, octets: &[u8], block: &Block) -> String {
+    let part = |part: &Range<usize>, name: &str, none: &str| match &octets[part.clone()] {
+        [] => none.to_string(),
+        octets => format!("{name} {}", text::show_octets(octets)),
+    };
+    let country = part(&block.country, "country", "a country code always has an octet");
+    let provider = part(&block.provider, "provider", "no provider code");
+    let rest = part(&block.rest, "rest", "no rest");
+    let quoted = match &octets[block.rest.clone()] {
+        [] => String::new(),
+        rest if rest.iter().all(|octet| (0x20..=0x7E).contains(octet)) => {
+            format!(" \"{}\"", String::from_utf8_lossy(rest))
+        }
+        _ => String::new(),
+    };
+    format!("block {number}: {country}, {provider}, {rest}{quoted}")
 }
 
 /// The ladder of a call: what happens, and how it ends.
@@ -380,12 +479,12 @@ fn plan_and_ladder<'a>(call: &str, printed: &'a str) -> (&'a str, Ladder) {
         assert!(row.len() <= 100, "{row}: {call}");
         let row = format!("{row:100}");
         let (clock, caller, middle, answerer) = (&row[..5], row[7..18].trim(), &row[18..86], row[86..].trim());
-        // An arrow is no text.
-        let words = middle.split_whitespace().filter(|word| !word.trim_matches(['<', '>']).chars().all(|c| c == '-'));
-        let words = words.map(str::to_string);
         if clock.trim().is_empty() {
             assert!(caller.is_empty() && answerer.is_empty(), "{row}: {call}");
-            events.last_mut().expect("something goes on").text.extend(words);
+            let event = events.last_mut().expect("something goes on");
+            let begins = ["block ", "its field "].iter().any(|begin| middle.trim_start().starts_with(begin));
+            let goes_on = if begins || !event.field.is_empty() { &mut event.field } else { &mut event.text };
+            goes_on.extend(words(middle));
             continue;
         }
         let now: u32 = clock.trim().parse().unwrap_or_else(|_| panic!("no time: {row}: {call}"));
@@ -393,8 +492,9 @@ fn plan_and_ladder<'a>(call: &str, printed: &'a str) -> (&'a str, Ladder) {
         assert!(caller.is_empty() != answerer.is_empty(), "not one end: {row}: {call}");
         before = now;
         let what = caller.to_string() + answerer;
-        events.push(Event { now, answerer: caller.is_empty(), what, text: words.collect() });
+        events.push(Event { now, answerer: caller.is_empty(), what, text: words(middle).collect(), field: Vec::new() });
     }
+    assert!(events.iter().all(|event| event.field == event.field_heard()), "{call}{printed}");
     let begin: Vec<_> = events.iter().take(2).map(|event| (event.answerer, event.what.as_str())).collect();
     assert_eq!(begin, [(false, "still"), (true, "still")], "{call}{printed}");
     (plan, Ladder { events, ending })
@@ -460,10 +560,10 @@ fn shown(menu: &str, octets: &[u8]) -> String {
 
 /// The octets at the end of a menu in words.
 fn octets_of(shown: &str) -> Vec<u8> {
-    let octet = |word: &&str| word.len() == 2 && u8::from_str_radix(word, 16).is_ok();
-    let mut octets: Vec<&str> = shown.rsplit(' ').take_while(octet).collect();
+    let octet = |word: &str| u8::from_str_radix(word, 16).ok().filter(|_| word.len() == 2);
+    let mut octets: Vec<u8> = shown.rsplit(' ').map_while(octet).collect();
     octets.reverse();
-    text::octets(&octets.join(" ")).expect("octets")
+    octets
 }
 
 /// How often calls ended in these ways.
@@ -487,9 +587,22 @@ fn ends_as_the_model_says(call: &Call, said: &str, wrong: Option<String>, counts
         assert_eq!(printed, line + "\n", "{said}");
         return counts.add("refused");
     }
+    if let Some(line) = call.unmade() {
+        assert_eq!(printed, line.to_string() + "\n", "{said}");
+        return counts.add(if line == TOO_MANY { "too many" } else { "no blocks" });
+    }
     let (plan, ladder) = plan_and_ladder(said, &printed);
     assert_eq!(plan, call.plain(), "{said}");
     let (cm, jm, choice) = call.made();
+    if !call.in_time(&cm) {
+        assert_eq!(ladder.sent("menu"), Some(shown("CM", &cm)), "{said}{printed}");
+        assert_eq!(ladder.sent("joint"), None, "{said}{printed}");
+        assert_eq!(ladder.ending, LATE, "{said}{printed}");
+        return counts.add("late");
+    }
+    if !call.blocks.is_empty() {
+        counts.add("blocks");
+    }
     counts.add(match choice {
         Choice::None => "cleared",
         Choice::Item(_) => "modes",
@@ -499,6 +612,7 @@ fn ends_as_the_model_says(call: &Call, said: &str, wrong: Option<String>, counts
     let quiet = (ladder.at("menu") - ladder.at("quiet")) as usize;
     assert!((call.te()..call.te() + 4).contains(&quiet), "{said}{printed}");
     assert_eq!(ladder.sent("menu"), Some(shown("CM", &cm)), "{said}{printed}");
+    assert_eq!(ladder.first("hears"), Some(shown("CM", &cm)), "{said}{printed}");
     assert_eq!(ladder.sent("joint"), Some(shown("JM", &jm)), "{said}{printed}");
     assert_eq!(ladder.ending, ending(choice), "{said}{printed}");
 }
@@ -507,9 +621,9 @@ fn root() -> PathBuf {
     Path::new(env!("CARGO_MANIFEST_DIR")).join("..")
 }
 
-/// The records of a vector file that can be said in words, each with the field behind it. A function that is not available is said as
-/// not there, whatever the record has for it.
-fn records(name: &str) -> Vec<(Record, String)> {
+/// The records of a vector file that can be said in words, each with the two columns behind it. A function that is not available is said
+/// as not there, whatever the record has for it.
+fn records(name: &str) -> Vec<(Record, [String; 2])> {
     let vectors = fs::read_to_string(root().join("tests/vectors").join(name)).expect("the vectors can be read");
     let mut said = Vec::new();
     for row in vectors.lines().skip(1) {
@@ -521,7 +635,7 @@ fn records(name: &str) -> Vec<(Record, String)> {
         let has_names =
             |function: &Function| function.pcm < 8 && function.items.iter().all(|item| (1..=12).contains(item));
         if own.functions.iter().all(has_names) && (1..=6).contains(&own.home) {
-            said.push((own, fields[1].to_string()));
+            said.push((own, [fields[1].to_string(), fields[2].to_string()]));
         }
     }
     said
@@ -530,16 +644,18 @@ fn records(name: &str) -> Vec<(Record, String)> {
 #[test]
 fn a_rehearsed_call_ends_as_the_model_says() {
     let mut counts = Counts::default();
-    for ((caller, function), (answerer, _)) in records("cm.tsv").into_iter().zip(records("jm.tsv")) {
+    for ((caller, [function, blocks]), (answerer, _)) in records("cm.tsv").into_iter().zip(records("jm.tsv")) {
+        let blocks = text::octets(&blocks).expect("octets");
         // The function of a vector is often none that the caller has, or none at all, so data is asked for too.
         let asked: u8 = function.parse().expect("a function is a byte");
         let ends = [caller, answerer];
         for function in BTreeSet::from([asked, 6]).into_iter().filter(|function| (1..=6).contains(function)) {
-            let call = Call { ends: ends.clone(), function, te: None, blocks: Vec::new(), damaged: Default::default() };
+            let call =
+                Call { ends: ends.clone(), function, te: None, blocks: blocks.clone(), damaged: Default::default() };
             ends_as_the_model_says(&call, &call.plain(), call.wrong(), &mut counts);
         }
     }
-    counts.at_least(20, &["modes", "pcm", "cleared", "refused"]);
+    counts.at_least(20, &["modes", "pcm", "cleared", "refused", "too many", "no blocks", "blocks", "late"]);
 }
 
 #[test]
@@ -549,23 +665,52 @@ fn a_call_in_any_words_ends_as_the_model_says() {
     for _ in 0..600 {
         let ends = [random.record(), random.record()];
         let function = random.function(&ends[0]);
-        // Behind a later Te the answerer does not wait for two copies of the longest CM.
         let te = random.one_in(2).then(|| 500 + random.below(2900));
         let call = Call { ends, function, te, blocks: random.blocks(), damaged: Default::default() };
         let (said, wrong) = call.in_other_words(&mut random);
         ends_as_the_model_says(&call, &said, wrong, &mut counts);
     }
-    counts.at_least(20, &["modes", "pcm", "cleared", "refused"]);
+    counts.at_least(20, &["modes", "pcm", "cleared", "refused", "too many", "no blocks", "blocks", "late"]);
+}
+
+#[test]
+fn the_answerer_waits_for_a_field_as_long_as_the_model_says() {
+    let none = || Function { available: false, items: Vec::new(), pcm: 0 };
+    let data = Function { available: true, items: vec![4, 12], pcm: 0 };
+    let functions = [none(), none(), none(), none(), none(), data];
+    let own = Record { functions, home: 6, lapm: false, access: false, cellular: false, digital: false };
+    let mut counts = Counts::default();
+    // A CM with more is too late behind the shortest Te.
+    for rest in 0..=27 {
+        let blocks = [&[rest + 2, 0xB5, 0][..], &vec![b'7'; rest.into()]].concat();
+        let mut call =
+            Call { ends: [own.clone(), own.clone()], function: 6, te: None, blocks, damaged: Default::default() };
+        // The latest CM that is agreed, and one that begins a bit later.
+        let (cm, ..) = call.made();
+        let latest = (500..=5000).filter(|te| {
+            call.te = Some(*te);
+            call.in_time(&cm)
+        });
+        let latest = latest.max().expect("a Te");
+        for te in [latest, latest + 1] {
+            call.te = Some(te);
+            ends_as_the_model_says(&call, &call.plain(), None, &mut counts);
+        }
+    }
+    counts.at_least(28, &["modes", "late"]);
 }
 
 #[test]
 fn a_menu_that_damage_makes_is_answered_as_the_model_says() {
     let model = Model::default();
     let mut answered: Vec<(Record, Vec<u8>)> = Vec::new();
-    for (own, heard) in records("jm.tsv") {
+    let fields = fs::read_to_string(root().join("tests/vectors/fields.tsv")).expect("the vectors can be read");
+    let mut fields = fields.lines().skip(1).map(|row| row.split('\t').next().expect("octets").to_string());
+    for (own, [heard, _]) in records("jm.tsv") {
         // With every name, in as many octets as a message may have.
         let longest = [&[0xC1, 0xE5, 0xD7, 0xD7, 0xE7, 0x2A, 0xED][..], &[0xD7; 57]].concat();
-        answered.extend([text::octets(&heard).expect("octets"), longest].map(|heard| (own.clone(), heard)));
+        let menus = [heard].into_iter().chain(fields.by_ref().take(2)).map(|menu| text::octets(&menu).expect("octets"));
+        answered.extend(menus.chain([longest]).map(|heard| (own.clone(), heard)));
     }
     let mut counts = Counts::default();
     for (own, heard) in answered {
@@ -593,9 +738,14 @@ fn a_menu_that_damage_makes_is_answered_as_the_model_says() {
             "{said}{printed}"
         );
         assert_eq!(ladder.sent("joint"), Some(shown("JM", &jm)), "{said}{printed}");
-        counts.add(if heard.len() == 64 { "longest" } else { "others" });
+        counts.add(match model.fields(&heard, 64) {
+            Ok(octets) if octets.is_empty() => "no field",
+            Ok(_) => "blocks",
+            Err(Refusal(14)) => "no blocks",
+            Err(_) => "badly packed",
+        });
     }
-    counts.at_least(20, &["longest", "others"]);
+    counts.at_least(20, &["no field", "blocks", "no blocks", "badly packed"]);
 }
 
 #[test]
@@ -608,7 +758,7 @@ fn a_call_over_a_damaged_line_ends_in_a_known_way() {
         let latest = if random.one_in(8) { 5000 } else { 2000 };
         let te = random.one_in(2).then(|| 500 + random.below(latest - 499));
         let mut call = Call { ends, function, te, blocks: random.blocks(), damaged: Default::default() };
-        if call.wrong().is_some() {
+        if call.wrong().is_some() || call.unmade().is_some() {
             continue;
         }
         let (cm, jm, _) = call.made();
@@ -632,6 +782,13 @@ fn a_call_over_a_damaged_line_ends_in_a_known_way() {
         let printed = rehearsed(&said);
         let (plan, ladder) = plan_and_ladder(&said, &printed);
         assert_eq!(plan, call.plain(), "{said}");
+        for event in &ladder.events {
+            match event.field.first().map(String::as_str) {
+                Some("block") => counts.add("blocks"),
+                Some(_) => counts.add("field refused"),
+                None => {}
+            }
+        }
         if let Some(sent) = ladder.sent("menu") {
             assert_eq!(sent, shown("CM", &cm), "{said}{printed}");
         }
@@ -649,5 +806,5 @@ fn a_call_over_a_damaged_line_ends_in_a_known_way() {
             _ => "other",
         });
     }
-    counts.at_least(20, &["go on", "differ", "other"]);
+    counts.at_least(20, &["go on", "differ", "other", "blocks", "field refused"]);
 }
