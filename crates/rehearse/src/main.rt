@@ -143,7 +143,7 @@ fn put_call(text: &[u8], plan: Plan, blocks: &[u8], cm: Made) {
     }
 }
 
-// Why there is no CM for a plan: its blocks do not fit, or are none.
+// Why there is no CM for a plan: its blocks do not fit, or its octets are no blocks.
 fn unmade(refusal: Refusal) -> Text {
     match refusal {
         Refusal::TooManyOctets => put_words(blank(), words::UNMADE, 0),
@@ -151,7 +151,8 @@ fn unmade(refusal: Refusal) -> Text {
     }
 }
 
-// A plan: its call, where CM can be made with its blocks. As many octets as a menu has at most are more than fit into its field.
+// A plan: its call, where CM can be made with its blocks. A menu has room for fewer octets of blocks than are kept here, so what is cut off
+// changes nothing.
 fn call(text: &[u8], plan: Plan) {
     let mut octets = [0u8; MOST_OCTETS];
     let count = plans::put_blocks(text, &mut octets);
