@@ -12,7 +12,6 @@ use lib.Dec.{ltb, leb, eqb, lit<}
 use lib.ListN.{length, getD, length-map, List·getD-map}
 use lib.Pow.{pow-mono}
 use Rattle.laws.specs.Logic.{both}
-use Rattle.laws.specs.Tests.{every}
 use Rattle.laws.proofs.Logic.{both-true}
 use Rattle.items.specs.Items.{bitOf, inSet}
 use Rattle.items.proofs.Bits.{set-within}

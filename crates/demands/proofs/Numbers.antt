@@ -25,11 +25,9 @@ use Rattle.menus.specs.declared.Offer.{Offer}
 use Rattle.menus.specs.Groups.{Looked, place, opensGroup, firstGroup, looked, groupOf}
 use Rattle.menus.specs.Groups as looking
 use Rattle.menus.specs.Offer.{offerOf}
-use Rattle.fields.specs.Blocks.{blocksFault}
 use Rattle.fields.specs.Field.{fieldTag, fieldOctets, fieldOf}
 use Rattle.fields.proofs.Field.{field-none}
 use Rattle.fields.proofs.Finding.{field-few}
-use Rattle.records.specs.declared.Record.{Record}
 use Rattle.offers.specs.Offering.{cmOffer, jmOffer}
 use Rattle.offers.specs.Making.{menuOf, recordFault, functionFault, withField}
 use Rattle.offers.proofs.Making.{menu-length, menu-short, with-length, size-short}

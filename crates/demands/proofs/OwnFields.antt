@@ -7,28 +7,28 @@ use mathlib.Core.Path.{_≡_, refl, sym, ap, ap₂, _∙_}
 use mathlib.Core.Bool.{Bool, true, false}
 use mathlib.Core.List.{List, [], _∷_, _++_, append-nil}
 use borrow.Author.Tests.{eqb-true, ltb-true, lt-ltb}
-use lib.Dec.{T, ltb, eqb}
-use lib.ListN.{length, take, drop, length-append}
+use lib.Dec.{ltb, eqb}
+use lib.ListN.{length, take, drop}
 use Rattle.laws.specs.Logic.{when, both, either}
 use Rattle.laws.specs.Tests.{allBelow, every}
 use Rattle.laws.specs.Front.{front}
 use Rattle.laws.proofs.Logic.{either-way, both-true}
 use Rattle.laws.proofs.Computed.{below}
 use Rattle.octets.specs.declared.Kind.the-variants.{Menu}
-use Rattle.octets.specs.declared.Purpose.the-variants.{Reading, Writing}
+use Rattle.octets.specs.declared.Purpose.the-variants.{Reading}
 use Rattle.octets.specs.Octets.{category, tag, options, categoryOctet, extension, bad}
 use Rattle.octets.specs.Lists.{octetFault, firstFault, untilCategory, listFault}
 use Rattle.octets.proofs.Lists.{before-none, accepted-rest}
 use Rattle.octets.proofs.Made.{made-again}
 use Rattle.refusals.specs.Refusals.{before}
-use Rattle.refusals.specs.Lent.{count, WriteOutcome, roomFault, put}
+use Rattle.refusals.specs.Lent.{count, roomFault, put}
 use Rattle.refusals.proofs.Outcomes.{counted}
 use Rattle.stretches.proofs.Copies.{copies-read}
 use Rattle.menus.specs.declared.Offer.{Offer}
 use Rattle.menus.specs.Groups.{place, nowhere, opensGroup, looked, frontPart, partAt, groupOf}
 use Rattle.menus.specs.Offer.{offerOf}
 use Rattle.menus.proofs.Joined.{groupFrom, group-from}
-use Rattle.fields.specs.Packing.{joinedBits, groupsOf, unpacked, fillsOctets, packed}
+use Rattle.fields.specs.Packing.{joinedBits, groupsOf, unpacked, packed}
 use Rattle.fields.specs.Blocks.{blocksBehind, blocksFault}
 use Rattle.fields.specs.Field.{fieldTag, fieldOctets, isPacked, packingFault, fieldRead, fieldOf}
 use Rattle.fields.proofs.Packing.{packed-fills, unpacks-again, packs-again}
@@ -36,7 +36,7 @@ use Rattle.fields.proofs.Field.{field-none, field-some, field-length, packed-we
 use Rattle.fields.proofs.Finding.{place-tells, nowhere-tells, nowhere-found}
 use Rattle.records.specs.declared.Record.{Record}
 use Rattle.offers.specs.Offering.{cmOffer, jmOffer}
-use Rattle.offers.specs.Making.{menuOf, withField, recordFault, functionFault, sizeFault, madeCm}
+use Rattle.offers.specs.Making.{menuOf, recordFault, functionFault, sizeFault, madeCm}
 use Rattle.offers.proofs.Making.{menu-short, size-fits, with-length}
 use Rattle.offers.proofs.Meaning.{menu-readable}
 use Rattle.offers.proofs.Fields.{no-field, own-field, offer-kept, with-readable, with-writable}

@@ -30,7 +30,7 @@ use Rattle.menus.specs.Groups.{firstGroup, frontPart, groupOf}
 use Rattle.menus.specs.Offer.{offerOf, menuRead}
 use Rattle.menus.specs.Pcm.{paired}
 use Rattle.records.specs.declared.Record.{Record}
-use Rattle.offers.specs.Making.{recordFault, functionFault, madeCm, madeJm}
+use Rattle.offers.specs.Making.{recordFault, madeCm, madeJm}
 use Rattle.choices.specs.Choosing.{lowestFrom, pcmChoice, itemChoice, chosenFrom}
 use Rattle.demands.specs.Joint.{cmOf, jmOf}
 use Rattle.demands.specs.WrongPrograms.{First, FirstTwo, CountsWhatItWrote, NoNamedWrongProgramFits}

@@ -1,12 +1,11 @@
 -- Document 02, Req 02: makers' own fields in a CM, from blocks to bits and back; what they change, and where they never stand.
 use Prim.Native.Nat.{ℕ, _+_, _*_, _/_, _<_, _≤_}
 use mathlib.Core.Path.{_≡_}
-use mathlib.Core.Bool.{true, false}
 use mathlib.Core.List.{List, [], _∷_, _++_}
-use lib.ListN.{length, take, drop}
+use lib.ListN.{length, drop}
 use Rattle.laws.specs.Front.{front}
 use Rattle.octets.specs.declared.Kind.the-variants.{Menu}
-use Rattle.octets.specs.declared.Purpose.the-variants.{Reading, Writing}
+use Rattle.octets.specs.declared.Purpose.the-variants.{Writing}
 use Rattle.octets.specs.Lists.{listFault}
 use Rattle.refusals.specs.Lent.{count, WriteOutcome, put}
 use Rattle.sequences.specs.Line.{tenOnes, sequence, copies}

@@ -5,13 +5,13 @@ use mathlib.Core.Path.{_≡_}
 use mathlib.Core.Bool.{Bool, not}
 use mathlib.Core.List.{List, [], _∷_}
 use lib.Dec.{ltb, eqb}
-use lib.ListN.{length, drop}
+use lib.ListN.{length, drop, getD}
 use Rattle.laws.specs.Logic.{when, both}
 use Rattle.laws.specs.Tests.{every}
 use Rattle.octets.specs.declared.Kind.{Kind}
 use Rattle.octets.specs.declared.Purpose.{Purpose}
 use Rattle.octets.specs.declared.Purpose.the-variants.{Reading, Writing}
-use Rattle.octets.specs.Octets.{bad}
+use Rattle.octets.specs.Octets.{bad, options}
 use Rattle.octets.specs.Lists.{accepts, opens, mostOctets, listFault}
 use Rattle.refusals.specs.Lent.{count}
 use Rattle.refusals.specs.Lent as lent
@@ -22,7 +22,8 @@ use Rattle.menus.specs.Groups as looking
 use Rattle.menus.specs.Offer.{offers, offerOf, menuRead}
 use Rattle.menus.specs.Offer as reading
 use Rattle.fields.specs.Blocks.{blocksOf, fits}
-use Rattle.fields.specs.Field.{fieldOctets, isPacked, fieldRead}
+use Rattle.fields.specs.Packing.{fillsOctets}
+use Rattle.fields.specs.Field.{fieldOctets, fieldRead}
 use Rattle.records.specs.declared.Record.{Record}
 use Rattle.records.specs.Record.{flag, inUse, badRecord}
 use Rattle.offers.specs.Making.{madeCm, madeJm}
@@ -75,7 +76,7 @@ unavailable own function = when (flag (inUse own function .available)) 0 5
 
 -- 15, "more than four bits left over, or leftover bits or options not 0"
 abbrev pub badlyPacked : List ℕ → ℕ
-badlyPacked group = when (isPacked group) 0 15
+badlyPacked group = when (both (eqb (options (getD group 0 0)) 0) (fillsOctets (drop 1 group))) 0 15
 
 -- 14, "block longer than what remains or a code that doesn't fit in it"
 abbrev pub badBlocks : List ℕ → ℕ

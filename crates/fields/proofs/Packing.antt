@@ -2,18 +2,17 @@
 -- and what unpacks well is packed to the same extension octets.
 -- Assumes nothing.
 use Prim.Native.Nat.{ℕ, zero, suc, _+_, _-_, _*_, _/_, _%_, _^_, _<_, _≤_}
-use native.Mathlib.Nat.{div-one, zero-div, add-div-left, add-mod-left, div-eq-of-lt, mod-eq-of-lt, mod-lt, mul-suc, mul-zero, mul-assoc, add-assoc, add-mul, mul-comm, lt-of-lt-of-le, not-suc-le-zero, le-of-suc-le-suc, div-div-eq-div-mul, lt-mul-div-succ}
+use native.Mathlib.Nat.{div-one, zero-div, add-div-left, add-mod-left, div-eq-of-lt, mod-eq-of-lt, mod-lt, mul-suc, mul-zero, lt-of-lt-of-le, not-suc-le-zero, le-of-suc-le-suc, lt-mul-div-succ}
 use native.Mathlib.Numerals.{add-one}
 use native.Mathlib.Omega.{arith}
 use mathlib.Core.Path.{_≡_, refl, sym, ap, ap₂, _∙_}
 use mathlib.Core.Bool.{Bool, true, false, not}
 use mathlib.Core.List.{List, [], _∷_, map}
 use borrow.Author.Tests.{eqb-true, leb-true, le-leb, eq-eqb, ltb-true, ltb-false, lt-ltb}
-use lib.Dec.{T, ltb, leb, eqb, eqb→eq, lit<}
-use lib.ListN.{length, drop, getD, length-map}
-use lib.Seq.{drop-cons}
+use lib.Dec.{ltb, leb, eqb, eqb→eq, lit<}
+use lib.ListN.{length, getD, length-map}
 use lib.Arith.{digits-lt}
-use lib.Pow.{pow-pos, pow-mono, pow-add, shl-lt, shr-shr, high, low, mod-pow-add, field, mod-mod-pow}
+use lib.Pow.{pow-pos, pow-mono, pow-add, shr-shr, high, low, mod-pow-add, field, mod-mod-pow}
 use Rattle.items.specs.Items.{bitOf}
 use Rattle.items.proofs.Bits.{bit-below}
 use Rattle.laws.specs.Logic.{both, either}

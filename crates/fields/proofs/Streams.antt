@@ -1,17 +1,17 @@
 -- Groups of one width that come one by one, and leave as groups of another: the bits between are held as a number, beside the weight of the
 -- next. One law for taking a group in and one for giving one out, for both ways of the packing.
 -- Assumes nothing.
-use Prim.Native.Nat.{ℕ, zero, suc, _+_, _-_, _*_, _/_, _%_, _^_, _<_, _≤_}
-use native.Mathlib.Nat.{mul-suc, mul-zero, mul-one, mul-assoc, mul-add, add-assoc, add-mul, mul-comm, lt-of-lt-of-le, lt-irrefl, zero-mul, zero-add, div-one, mul-add-div-right, mul-add-mod-self-right, add-comm, div-lt-iff-lt-mul, le-of-eq}
+use Prim.Native.Nat.{ℕ, _+_, _-_, _*_, _/_, _%_, _^_, _<_, _≤_}
+use native.Mathlib.Nat.{mul-suc, mul-zero, mul-assoc, add-mul, mul-comm, lt-of-lt-of-le, lt-irrefl, zero-mul, div-one, mul-add-div-right, mul-add-mod-self-right, add-comm, div-lt-iff-lt-mul}
 use native.Mathlib.Numerals.{add-one}
 use native.Mathlib.Omega.{arith}
-use mathlib.Core.Path.{_≡_, refl, sym, ap, _∙_, subst}
-use mathlib.Core.List.{List, [], _∷_}
+use mathlib.Core.Path.{_≡_, sym, ap, _∙_, subst}
+use mathlib.Core.List.{List}
 use lib.Arith.{digits-lt}
 use lib.Dec.{lit<}
 use lib.ListN.{length, drop, getD, drop-of-length-le}
 use lib.Seq.{drop-cons}
-use lib.Pow.{pow-pos, pow-lt, pow-mono, pow-add, shr-shr, shl-shr, shr-lt, split}
+use lib.Pow.{pow-pos, pow-lt, pow-mono, pow-add, shr-shr, shl-shr}
 use Rattle.fields.specs.Packing.{joinedBits}
 
 -- i groups of width v were taken in and j of width w given out: held is what is between, below its weight, and with what is to come it is what

@@ -10,7 +10,6 @@ use lib.Dec.{eqb}
 use lib.ListN.{length}
 use Rattle.laws.specs.Logic.{when, both}
 use Rattle.laws.specs.Joined.{joined}
-use Rattle.laws.specs.Tests.{every}
 use Rattle.laws.proofs.Logic.{either-way, clash}
 use Rattle.octets.specs.declared.Kind.the-variants.{Menu}
 use Rattle.octets.specs.declared.Purpose.{Purpose}

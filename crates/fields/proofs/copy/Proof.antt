@@ -4,7 +4,6 @@ use borrow.Author.Needs.{needs}
 use native.Mathlib.Omega.{arith}
 use Prim.Native.Nat.{ℕ, _-_, _%_, _≤_}
 use mathlib.Core.Path.{_≡_, refl, ap}
-use mathlib.Core.List.{List}
 use denote.Ref.{now}
 use lib.ListN.{length, getD}
 use Rattle.fields.proofs.Pasted.{Pasted, pasted-more, pasted-length, pasted-all}

@@ -3,7 +3,6 @@
 use borrow.Author.Needs.{needs}
 use native.Mathlib.Omega.{arith}
 use mathlib.Core.Path.{sym, ap}
-use mathlib.Core.List.{List}
 use denote.Ref.{now}
 use lib.ListN.{length}
 use Rattle.fields.proofs.Field.{field-none, field-length}

@@ -3,12 +3,12 @@
 -- Assumes nothing.
 use borrow.Author.Needs.{needs}
 use native.Mathlib.Omega.{arith}
-use Prim.Native.Nat.{ℕ, _+_, _-_, _<_, _≤_}
+use Prim.Native.Nat.{ℕ, _-_, _≤_}
 use mathlib.Core.Path.{_≡_, refl, sym, ap, _∙_}
 use mathlib.Core.List.{List, [], _∷_}
 use borrow.Rule.Slice.PartMut.{putMid}
 use denote.Ref.{now}
-use lib.ListN.{length, take, drop, set, length-set}
+use lib.ListN.{length, set, length-set}
 use Rattle.laws.specs.Front.{front}
 use Rattle.laws.proofs.Rest.{front-length, lent-length, front-then}
 use Rattle.refusals.proofs.Outcomes.{meets-short, meets-put}

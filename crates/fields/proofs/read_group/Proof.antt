@@ -2,7 +2,7 @@
 -- Assumes nothing.
 use borrow.Author.Needs.{needs}
 use native.Mathlib.Omega.{arith}
-use Prim.Native.Nat.{ℕ, _-_, _≤_}
+use Prim.Native.Nat.{ℕ, _-_}
 use mathlib.Core.Path.{_≡_, sym, ap, subst, _∙_}
 use mathlib.Core.List.{List}
 use denote.Ref.{now}
@@ -12,7 +12,7 @@ use Rattle.laws.proofs.Rest.{rest-of}
 use Rattle.refusals.specs.Refusals.{before}
 use Rattle.refusals.specs.Lent.{roomFault, put, Meets}
 use Rattle.refusals.proofs.Outcomes.{meets-refused, meets-accepted}
-use Rattle.fields.specs.Packing.{octetsIn, leftOver, unpacked}
+use Rattle.fields.specs.Packing.{leftOver, unpacked}
 use Rattle.fields.specs.Blocks.{blocksFault}
 use Rattle.fields.specs.Field.{fieldOctets}
 use Rattle.fields.proofs.Packing.{unpacked-length}

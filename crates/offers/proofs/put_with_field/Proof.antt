@@ -2,14 +2,10 @@
 -- Assumes nothing.
 use borrow.Author.Needs.{needs}
 use native.Mathlib.Omega.{arith}
-use Prim.Native.Nat.{ℕ, _+_, _-_, _<_, _≤_}
-use mathlib.Core.Path.{_≡_, sym, ap, _∙_}
-use mathlib.Core.Bool.{true}
-use mathlib.Core.List.{List}
-use borrow.Rule.Slice.PartMut.{putMid}
+use Prim.Native.Nat.{_+_, _-_, _<_, _≤_}
+use mathlib.Core.Path.{_≡_, sym, _∙_}
 use denote.Ref.{now}
 use lib.ListN.{length, take, drop}
-use Rattle.laws.specs.Front.{front}
 use Rattle.laws.proofs.Rest.{lent-length, front-then}
 use Rattle.refusals.proofs.Outcomes.{meets-short, meets-put, meets-refused, meets-accepted}
 use Rattle.fields.specs.Blocks.{blocksFault}
