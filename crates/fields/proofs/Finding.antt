@@ -22,7 +22,7 @@ use Rattle.octets.specs.Octets.{category, tag, callFunctionTag}
 use Rattle.octets.specs.Lists.{untilCategory, opens, listFault}
 use Rattle.octets.proofs.Lists.{accepted-short, accepted-opens}
 use Rattle.menus.specs.Groups.{Looked, place, nowhere, refusal, opensGroup, firstGroup, looked, frontPart, partAt, partOf, groupOf}
-use Rattle.menus.proofs.Looking.{looked-read}
+use Rattle.menus.proofs.Looking.{looked-read, part-short}
 use Rattle.fields.specs.Packing.{joinedBits, groupsOf, unpacked}
 use Rattle.fields.specs.Blocks.{blocksBehind}
 use Rattle.fields.specs.Field.{fieldTag, fieldOctets, fieldRead}
@@ -50,13 +50,6 @@ first-there t i (b ∷ octets) =
     either-way (There i (b ∷ octets)) (opensGroup t b) (place i) (firstGroup t (i + 1) octets)
     (λ opens. (omega arith, rw here (either-way (λ (l : List ℕ). 0 < length l) (category b) (b ∷ take (untilCategory octets) octets) [] (λ _. omega arith) (λ no. clash (sym (both-true (category b) _ opens .0) ∙ no)))))
     (λ _. there-later i b octets (firstGroup t (i + 1) octets) (first-there t (i + 1) octets))
-
--- a part is no longer than what it is taken from
-part-short : (octets : List ℕ) → length (frontPart octets) ≤ length octets
-unfolding frontPart
-part-short [] = omega arith
-part-short (b ∷ octets) =
-    either-way (λ (l : List ℕ). length l ≤ suc (length octets)) (category b) (b ∷ take (untilCategory octets) octets) [] (λ _. omega (arith, length-take (untilCategory octets) octets)) (λ _. omega arith)
 
 -- a group behind the first octet is shorter than the whole
 part-behind : (b : ℕ) (octets : List ℕ) (l : Looked) → There 1 octets l → length (partOf (b ∷ octets) l) ≤ length octets

@@ -89,6 +89,11 @@ module _ (items : ℕ) where
   unfolding places placeOf itemBits modulationOctet when
   octet-2 = simp (sym (div-div-eq-div-mul items 256 2), sym (div-div-eq-div-mul items 256 4), sym (div-div-eq-div-mul items 256 8), sym (div-div-eq-div-mul items 256 16)) (omega (arith, five-bits (items / 256)))
 
+  -- no item stands past the third octet
+  pub octet-past : (octet : ℕ) → 2 < octet → modulationOctet items octet ≡ noItems
+  unfolding places placeOf itemBits modulationOctet when
+  octet-past octet h = simp (ne-eqb octet 0 (λ e. omega (arith, e, h)), ne-eqb 0 octet (λ e. omega (arith, e, h)), ne-eqb 1 octet (λ e. omega (arith, e, h)), ne-eqb 2 octet (λ e. omega (arith, e, h)))
+
 -- the items of a set are read from its octets, octet by octet: three in the first, and five in each other, by the lowest item's weight
 abbrev said : ℕ → ℕ → ℕ → ℕ
 said bit weight b = when (eqb (bitOf bit b) 1) weight 0

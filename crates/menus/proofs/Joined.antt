@@ -1,20 +1,21 @@
 -- Groups of a message that is put together from parts: the first part that has a group of the tag gives it.
 -- Assumes nothing.
-use Prim.Native.Nat.{ℕ, suc, _+_}
+use Prim.Native.Nat.{ℕ, suc, _+_, _≤_}
 use native.Mathlib.Omega.{arith}
 use mathlib.Core.Path.{_≡_, refl, sym, ap, _∙_}
 use mathlib.Core.Bool.{Bool, true, false}
 use mathlib.Core.List.{List, [], _∷_, _++_}
 use borrow.Author.Tests.{eqb-true, ne-eqb}
-use lib.ListN.{take, drop}
+use lib.ListN.{length, take, drop}
 use lib.Seq.{drop-drop}
 use Rattle.laws.specs.Logic.{when, both}
 use Rattle.laws.specs.Tests.{every}
-use Rattle.laws.proofs.Logic.{both-true}
+use Rattle.laws.proofs.Logic.{either-way, both-true}
 use Rattle.octets.specs.Octets.{b4, category, extension}
 use Rattle.octets.specs.Lists.{untilCategory, groupEnds}
 use Rattle.octets.proofs.Lists.{group-end}
 use Rattle.menus.specs.Groups.{Looked, place, opensGroup, firstGroup, frontPart, partOf, groupOf}
+use Rattle.menus.proofs.Looking.{part-short}
 
 -- the first group of a tag, without its place
 unfoldable pub groupFrom : ℕ → List ℕ → List ℕ
@@ -37,6 +38,16 @@ module _ (whole : List ℕ) where
 pub group-from : (octets : List ℕ) (t : ℕ) → groupOf octets t ≡ groupFrom t octets
 unfolding groupOf
 group-from octets t = part-from octets t 0 octets refl
+
+-- a group is no longer than the message
+from-short : (t : ℕ) (octets : List ℕ) → length (groupFrom t octets) ≤ length octets
+unfolding groupFrom
+from-short t [] = omega arith
+from-short t (b ∷ bs) =
+    either-way (λ (l : List ℕ). length l ≤ suc (length bs)) (opensGroup t b) (frontPart (b ∷ bs)) (groupFrom t bs) (λ _. part-short (b ∷ bs)) (λ _. omega (arith, from-short t bs))
+
+pub group-short : (octets : List ℕ) (t : ℕ) → length (groupOf octets t) ≤ length octets
+group-short octets t = rw (group-from octets t) (from-short t octets)
 
 -- the first of two groups that stands
 abbrev pub orElse : List ℕ → List ℕ → List ℕ

@@ -8,7 +8,7 @@ use mathlib.Core.Bool.{true, false}
 use mathlib.Core.List.{List, [], _∷_}
 use borrow.Author.Tests.{lt-ltb, eq-eqb, ne-eqb, eqb-true}
 use lib.Dec.{ltb, eqb}
-use lib.ListN.{length, take, drop, getD, drop-of-length-le}
+use lib.ListN.{length, take, drop, getD, length-take, drop-of-length-le}
 use lib.Seq.{drop-cons}
 use Rattle.laws.specs.Logic.{when}
 use Rattle.laws.proofs.Logic.{either-way}
@@ -69,6 +69,13 @@ module _ (octets : List ℕ) (t : ℕ) where
   pub looked-refused : (r : Refusal) → number r ≡ listFault Reading octets → refusal (number r) ≡ looked octets t
   unfolding looked when
   looked-refused r e = simp (ne-eqb (listFault Reading octets) 0 (λ z. number-some r (e ∙ z))) (ap refusal e)
+
+-- a part is no longer than what it is taken from
+pub part-short : (octets : List ℕ) → length (frontPart octets) ≤ length octets
+unfolding frontPart
+part-short [] = omega arith
+part-short (b ∷ octets) =
+    either-way (λ (l : List ℕ). length l ≤ suc (length octets)) (category b) (b ∷ take (untilCategory octets) octets) [] (λ _. omega (arith, length-take (untilCategory octets) octets)) (λ _. omega arith)
 
 -- the part of a place
 module _ (s : List ℕ) (i : ℕ) where

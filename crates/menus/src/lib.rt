@@ -132,7 +132,7 @@ pub fn options_in(group: &[u8]) -> u8
 }
 
 // The first group of a tag, or the empty part where there is none.
-fn group_of(octets: &[u8], tag: u8) -> &[u8]
+pub fn group_of(octets: &[u8], tag: u8) -> &[u8]
     ensures { λ r. ⌜ now r ≡ groupOf (now (octets .entry)) tag ⌝ }
 {
     let spot = first_group(octets, tag);

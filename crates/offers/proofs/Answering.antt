@@ -20,8 +20,8 @@ use Rattle.records.specs.declared.Record.{Record}
 use Rattle.records.specs.Record.{flag, inUse, badRecord}
 use Rattle.offers.specs.declared.Source.the-variants.{Heard, Own}
 use Rattle.offers.specs.Offering.{cmOffer, jmOffer}
-use Rattle.offers.specs.Making.{menuOf, sourceOf, firstOctetOf, callFunction}
-use Rattle.offers.proofs.Meaning.{menu-readable}
+use Rattle.offers.specs.Making.{houseCount, menuOf, sourceOf, firstOctetOf, callFunction}
+use Rattle.offers.proofs.Meaning.{menu-readable, house-fits}
 
 -- the first octet of a menu that can be read says its function
 first-says : (heardCm : List ℕ) → getD heardCm 0 0 < 256 → opens heardCm ≡ true → take 1 heardCm ≡ categoryOctet callFunctionTag (optionsIn heardCm) ∷ []
@@ -33,13 +33,13 @@ first-says (b ∷ bs) h o =
 
 module _ (own : Record) (heardCm : List ℕ) (good : badRecord own ≡ false) (read : readable heardCm ≡ true) (octet : getD heardCm 0 0 < 256) where
   abbrev home : List ℕ
-  home = menuOf (cmOffer own (own .home))
+  home = menuOf houseCount (cmOffer own (own .home))
 
   by-function : (t : Bool) → firstOctetOf (when t Heard Own) heardCm home ≡ categoryOctet callFunctionTag (when t (optionsIn heardCm) (own .home)) ∷ []
   unfolding when joined
   by-function true = first-says heardCm octet (accepted-opens Reading heardCm (eqb-true _ _ read))
   by-function false = refl
 
-  pub call-octet : callFunction own heardCm (menuOf (cmOffer own (own .home))) ≡ categoryOctet callFunctionTag (jmOffer own (offerOf heardCm) .function) ∷ []
+  pub call-octet : callFunction own heardCm (menuOf houseCount (cmOffer own (own .home))) ≡ categoryOctet callFunctionTag (jmOffer own (offerOf heardCm) .function) ∷ []
   unfolding sourceOf when both
-  call-octet = simp (good, read, eq-eqb _ _ (menu-readable (cmOffer own (own .home)))) (by-function (flag (inUse own (optionsIn heardCm) .available)))
+  call-octet = simp (good, read, eq-eqb _ _ (menu-readable houseCount (cmOffer own (own .home)) (house-fits (cmOffer own (own .home))))) (by-function (flag (inUse own (optionsIn heardCm) .available)))

@@ -27,10 +27,10 @@ use Rattle.menus.proofs.Joined.{groupFrom, orElse, group-from, group-joined, lo
 use Rattle.fields.specs.Packing.{packed}
 use Rattle.fields.specs.Field.{fieldTag, fieldOf}
 use Rattle.fields.proofs.Packing.{packed-extensions}
-use Rattle.offers.specs.Making.{menuOf, withField, sizeFault}
+use Rattle.offers.specs.Making.{houseCount, menuOf, withField, sizeFault}
 use Rattle.offers.proofs.Making.{size-short}
 use Rattle.offers.proofs.Groups.{none-chosen, or-nothing}
-use Rattle.offers.proofs.Meaning.{found, menu-readable, menu-writable}
+use Rattle.offers.proofs.Meaning.{found, menu-readable, menu-writable, house-fits}
 
 -- the field by its tag: all of it, or nothing for any other tag
 field-opens : (t : ℕ) → opensGroup t (categoryOctet fieldTag 0) ≡ eqb fieldTag t
@@ -70,39 +70,39 @@ field-fine p later octets =
 
 module _ (offer : Offer) (blocks : List ℕ) where
   -- each group of a menu with a field: that of the menu, or the field
-  pub group-with-field : (t : ℕ) → groupOf (withField offer blocks) t ≡ orElse (groupOf (menuOf offer) t) (when (eqb fieldTag t) (fieldOf blocks) [])
+  pub group-with-field : (t : ℕ) → groupOf (withField offer blocks) t ≡ orElse (groupOf (menuOf houseCount offer) t) (when (eqb fieldTag t) (fieldOf blocks) [])
   group-with-field t =
       group-from (withField offer blocks) t
-      ∙ group-joined t (menuOf offer) (fieldOf blocks) (field-ends blocks)
-      ∙ ap (orElse (groupFrom t (menuOf offer))) (group-of-field blocks t)
-      ∙ ap (λ (l : List ℕ). orElse l (when (eqb fieldTag t) (fieldOf blocks) [])) (sym (group-from (menuOf offer) t))
+      ∙ group-joined t (menuOf houseCount offer) (fieldOf blocks) (field-ends blocks)
+      ∙ ap (orElse (groupFrom t (menuOf houseCount offer))) (group-of-field blocks t)
+      ∙ ap (λ (l : List ℕ). orElse l (when (eqb fieldTag t) (fieldOf blocks) [])) (sym (group-from (menuOf houseCount offer) t))
 
   -- a menu without one has none
-  pub no-field : groupOf (menuOf offer) fieldTag ≡ []
+  pub no-field : groupOf (menuOf houseCount offer) fieldTag ≡ []
   unfolding when
-  no-field = found offer fieldTag
+  no-field = found houseCount offer fieldTag
 
   pub own-field : groupOf (withField offer blocks) fieldTag ≡ fieldOf blocks
   unfolding when
   own-field = group-with-field fieldTag ∙ ap (λ (l : List ℕ). orElse l (fieldOf blocks)) no-field
 
   -- and every other group is as without it
-  other-group : (t : ℕ) → eqb fieldTag t ≡ false → groupOf (withField offer blocks) t ≡ groupOf (menuOf offer) t
+  other-group : (t : ℕ) → eqb fieldTag t ≡ false → groupOf (withField offer blocks) t ≡ groupOf (menuOf houseCount offer) t
   unfolding when
-  other-group t other = group-with-field t ∙ ap (λ (b : Bool). orElse (groupOf (menuOf offer) t) (when b (fieldOf blocks) [])) other ∙ or-nothing (groupOf (menuOf offer) t)
+  other-group t other = group-with-field t ∙ ap (λ (b : Bool). orElse (groupOf (menuOf houseCount offer) t) (when b (fieldOf blocks) [])) other ∙ or-nothing (groupOf (menuOf houseCount offer) t)
 
-  pub offer-kept : offerOf (withField offer blocks) ≡ offerOf (menuOf offer)
+  pub offer-kept : offerOf (withField offer blocks) ≡ offerOf (menuOf houseCount offer)
   unfolding joined
   offer-kept = rw (other-group modulation refl, other-group pcmTag refl, other-group protocol refl, other-group access refl)
 
   -- it is accepted where it is not too long
   module _ (fits : sizeFault (withField offer blocks) ≡ 0) where
-    accepted-with : (p : Purpose) → listFault p (menuOf offer) ≡ 0 → categoryFault p fieldTag ≡ 0 → listFault p (withField offer blocks) ≡ 0
-    accepted-with p fine later = accepted-joined p (menuOf offer) (fieldOf blocks) fine (field-fine p later blocks) (size-short (withField offer blocks) fits)
+    accepted-with : (p : Purpose) → listFault p (menuOf houseCount offer) ≡ 0 → categoryFault p fieldTag ≡ 0 → listFault p (withField offer blocks) ≡ 0
+    accepted-with p fine later = accepted-joined p (menuOf houseCount offer) (fieldOf blocks) fine (field-fine p later blocks) (size-short (withField offer blocks) fits)
 
     pub with-readable : listFault Reading (withField offer blocks) ≡ 0
-    with-readable = accepted-with Reading (menu-readable offer) refl
+    with-readable = accepted-with Reading (menu-readable houseCount offer (house-fits offer)) refl
 
     pub with-writable : listFault (Writing Menu) (withField offer blocks) ≡ 0
     unfolding when
-    with-writable = accepted-with (Writing Menu) (menu-writable offer) refl
+    with-writable = accepted-with (Writing Menu) (menu-writable houseCount offer (house-fits offer)) refl

@@ -1,6 +1,6 @@
 -- Groups one behind the other: the reader finds each by its tag, since each begins with a category octet and goes on with extension octets.
 -- Assumes nothing.
-use Prim.Native.Nat.{ℕ, _<_, _+_, _*_, _/_, _%_}
+use Prim.Native.Nat.{ℕ, zero, suc, _<_, _+_, _*_, _/_, _%_}
 use native.Mathlib.Omega.{arith}
 use mathlib.Core.Path.{_≡_, refl, ap, _∙_}
 use mathlib.Core.Bool.{Bool, true, false}
@@ -15,10 +15,10 @@ use Rattle.octets.specs.Lists.{groupEnds}
 use Rattle.octets.proofs.Lists.{group-starts}
 use Rattle.octets.proofs.Made.{category-there, tag-there}
 use Rattle.items.specs.Items.{modulation, noItems, modulationOctet}
-use Rattle.items.proofs.Places.{octet-0, octet-1, octet-2}
+use Rattle.items.proofs.Places.{octet-0, octet-1, octet-2, octet-past}
 use Rattle.menus.specs.Groups.{opensGroup}
 use Rattle.menus.proofs.Joined.{groupFrom, orElse, group-joined, lone-group}
-use Rattle.offers.specs.Making.{oneOctet, modulationGroup}
+use Rattle.offers.specs.Making.{oneOctet, modulationFrom, modulationGroup}
 
 -- no octets, or a category octet with extension octets
 abbrev pub Group : List ℕ → Type 0
@@ -90,13 +90,27 @@ module _ (items : ℕ) where
   extension-octet : (k five : ℕ) → modulationOctet items k ≡ noItems + five % 8 + 64 * (five / 8 % 4) → extension (modulationOctet items k) ≡ true
   extension-octet k five e = rw e (extension-there (five % 8) (five / 8 % 4) (omega arith))
 
-  pub modulation-group : Group (modulationGroup items)
-  unfolding modulationGroup every both
-  modulation-group = (rw (octet-0 items) (category-there modulation items), simp (extension-octet 1 (items / 8) (octet-1 items), extension-octet 2 (items / 256) (octet-2 items)))
+  -- each octet behind the first is one
+  extends : (octet : ℕ) → extension (modulationOctet items (suc octet)) ≡ true
+  unfolding both
+  extends zero = extension-octet 1 (items / 8) (octet-1 items)
+  extends (suc zero) = extension-octet 2 (items / 256) (octet-2 items)
+  extends (suc (suc octet)) = rw (octet-past items (suc (suc (suc octet))) (omega arith))
 
-  pub modulation-of-tag : (s : ℕ) → ofTag s (modulationGroup items) ≡ when (eqb modulation s) (modulationGroup items) []
-  unfolding modulationGroup
-  modulation-of-tag s = ap (λ (b : Bool). when b (modulationGroup items) []) (ap (λ (b : ℕ). opensGroup s b) (octet-0 items) ∙ opens-there modulation items (lit< tt) s)
+  extensions : (more octet : ℕ) → every extension (modulationFrom items (suc octet) more) ≡ true
+  unfolding modulationFrom every both
+  extensions zero octet = refl
+  extensions (suc more) octet = simp (extends octet, extensions more (suc octet))
+
+  pub modulation-group : (count : ℕ) → Group (modulationGroup count items)
+  unfolding modulationFrom
+  modulation-group zero = tt
+  modulation-group (suc more) = (rw (octet-0 items) (category-there modulation items), extensions more 0)
+
+  pub modulation-of-tag : (count s : ℕ) → ofTag s (modulationGroup count items) ≡ when (eqb modulation s) (modulationGroup count items) []
+  unfolding modulationFrom
+  modulation-of-tag zero s = none-chosen (eqb modulation s)
+  modulation-of-tag (suc more) s = ap (λ (b : Bool). when b (modulationGroup (suc more) items) []) (ap (λ (b : ℕ). opensGroup s b) (octet-0 items) ∙ opens-there modulation items (lit< tt) s)
 
 pub or-nothing : (group : List ℕ) → orElse group [] ≡ group
 or-nothing [] = refl

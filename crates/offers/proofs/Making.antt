@@ -1,8 +1,9 @@
 -- The menus we make: each group by its number, how long a menu is, that options are options, and which test refuses a menu.
 -- Assumes nothing.
-use Prim.Native.Nat.{ℕ, _<_, _≤_, _+_, _*_, _/_}
+use Prim.Native.Nat.{ℕ, zero, suc, _<_, _≤_, _+_, _*_, _/_}
+use native.Mathlib.Nat.{not-suc-le-zero}
 use native.Mathlib.Omega.{arith}
-use mathlib.Core.Path.{_≡_, refl, sym, subst}
+use mathlib.Core.Path.{_≡_, refl, sym, ap, subst, _∙_}
 use mathlib.Core.Bool.{Bool, true, false}
 use mathlib.Core.List.{List, [], _∷_, _++_}
 use borrow.Author.Tests.{lt-ltb, le-ltb, ltb-false, ne-eqb}
@@ -14,7 +15,7 @@ use Rattle.laws.specs.Joined.{joined}
 use Rattle.laws.proofs.Logic.{either-way, bit-of-test, clash}
 use Rattle.refusals.specs.Lent.{roomFault, put}
 use Rattle.octets.specs.Octets.{categoryOctet}
-use Rattle.items.specs.Items.{inSet}
+use Rattle.items.specs.Items.{inSet, modulationOctet}
 use Rattle.menus.specs.declared.Offer.{Offer}
 use Rattle.menus.specs.Offer.{pcmTag, protocol, lapmOption, access}
 use Rattle.menus.specs.Pcm.{paired}
@@ -24,7 +25,7 @@ use Rattle.records.specs.declared.Modes.{Modes}
 use Rattle.records.specs.declared.Record.{Record}
 use Rattle.records.specs.Record.{inUse, badRecord}
 use Rattle.offers.specs.Offering.{bit, accessOptions, sharedItems, jmPcm}
-use Rattle.offers.specs.Making.{oneOctet, modulationGroup, groupsOf, menuOf, recordFault, functionFault, withField, sizeFault}
+use Rattle.offers.specs.Making.{oneOctet, modulationFrom, modulationGroup, houseCount, groupsOf, menuOf, recordFault, functionFault, withField, sizeFault}
 use Rattle.offers.specs.Inner.{Writes}
 
 pub one-there : (there : Bool) (octet : ℕ) (out : List ℕ) → there ≡ true → length (oneOctet there octet) ≤ length out → 0 < length out
@@ -33,25 +34,45 @@ one-there true octet out t h = h
 one-there false octet out t h = clash (sym t)
 
 -- a group by its number
-module _ (offer : Offer) (k n : ℕ) (same : k ≡ n) (out : List ℕ) where
-  pub group-room : length (getD (groupsOf offer) k []) ≤ length out → length (getD (groupsOf offer) n []) ≤ length out
-  group-room h = subst (λ (i : ℕ). length (getD (groupsOf offer) i []) ≤ length out) same h
+module _ (count : ℕ) (offer : Offer) (k n : ℕ) (same : k ≡ n) (out : List ℕ) where
+  pub group-room : length (getD (groupsOf count offer) k []) ≤ length out → length (getD (groupsOf count offer) n []) ≤ length out
+  group-room h = subst (λ (i : ℕ). length (getD (groupsOf count offer) i []) ≤ length out) same h
 
-  pub group-written : (r : ℕ) (after : List ℕ) → Writes (getD (groupsOf offer) n []) out r after → Writes (getD (groupsOf offer) k []) out r after
-  group-written r after w = subst (λ (i : ℕ). Writes (getD (groupsOf offer) i []) out r after) (sym same) w
+  pub group-written : (r : ℕ) (after : List ℕ) → Writes (getD (groupsOf count offer) n []) out r after → Writes (getD (groupsOf count offer) k []) out r after
+  group-written r after w = subst (λ (i : ℕ). Writes (getD (groupsOf count offer) i []) out r after) (sym same) w
+
+-- a modulation group has the octets that it is to have, each at its place
+module _ (items : ℕ) where
+  from-length : (octet count : ℕ) → length (modulationFrom items octet count) ≡ count
+  unfolding modulationFrom
+  from-length octet zero = refl
+  from-length octet (suc more) = ap suc (from-length (suc octet) more)
+
+  pub modulation-length : (count : ℕ) → length (modulationGroup count items) ≡ count
+  modulation-length count = from-length 0 count
+
+  from-at : (octet count k : ℕ) → k < count → getD (modulationFrom items octet count) k 0 ≡ modulationOctet items (octet + k)
+  unfolding modulationFrom
+  from-at octet zero k h = absurd (not-suc-le-zero h)
+  from-at octet (suc more) zero h = ap (modulationOctet items) (omega arith)
+  from-at octet (suc more) (suc k) h = from-at (suc octet) more k (omega (arith, h)) ∙ ap (modulationOctet items) (omega arith)
+
+  pub modulation-at : (count k : ℕ) → k < count → getD (modulationGroup count items) k 0 ≡ modulationOctet items k
+  modulation-at count k h = from-at 0 count k h ∙ ap (modulationOctet items) (omega arith)
 
 one-length : (there : Bool) (octet : ℕ) → length (oneOctet there octet) ≡ bit there
 unfolding when
 one-length true octet = refl
 one-length false octet = refl
 
-pub menu-length : (offer : Offer) → length (menuOf offer) ≡ 4 + bit (ltb 0 (offer .pcm)) + bit (offer .lapm) + bit (offer .access)
-unfolding joined modulationGroup
-menu-length offer =
+pub menu-length : (count : ℕ) (offer : Offer) → length (menuOf count offer) ≡ 1 + count + bit (ltb 0 (offer .pcm)) + bit (offer .lapm) + bit (offer .access)
+unfolding joined
+menu-length count offer =
+    let group = modulationGroup count (offer .items) in
     let protocols = oneOctet (offer .lapm) (categoryOctet protocol lapmOption) in
     let pcms = oneOctet (ltb 0 (offer .pcm)) (categoryOctet pcmTag (offer .pcm)) in
     let accesses = oneOctet (offer .access) (categoryOctet access (offer .«access_options»)) in
-    omega (arith, length-append pcms (protocols ++ (accesses ++ [])), length-append protocols (accesses ++ []), length-append accesses [], one-length (ltb 0 (offer .pcm)) (categoryOctet pcmTag (offer .pcm)), one-length (offer .lapm) (categoryOctet protocol lapmOption), one-length (offer .access) (categoryOctet access (offer .«access_options»)))
+    omega (arith, length-append group (pcms ++ (protocols ++ (accesses ++ []))), modulation-length (offer .items) count, length-append pcms (protocols ++ (accesses ++ [])), length-append protocols (accesses ++ []), length-append accesses [], one-length (ltb 0 (offer .pcm)) (categoryOctet pcmTag (offer .pcm)), one-length (offer .lapm) (categoryOctet protocol lapmOption), one-length (offer .access) (categoryOctet access (offer .«access_options»)))
 
 -- options of an access group are options
 pub bit-small : (t : Bool) → bit t < 2
@@ -67,9 +88,12 @@ jm-pcm-small modes cm =
     let options = paired (cm .pcm) (modes .pcm) in
     either-way (λ (n : ℕ). n < 8) (inSet (sharedItems modes cm) 1) options (options / 4 * 4) (λ _. paired-small (cm .pcm) (modes .pcm)) (λ _. omega (arith, paired-small (cm .pcm) (modes .pcm)))
 
--- a menu has seven octets at most
-pub menu-short : (offer : Offer) → length (menuOf offer) ≤ 7
-menu-short offer = omega (arith, menu-length offer, bit-small (ltb 0 (offer .pcm)), bit-small (offer .lapm), bit-small (offer .access))
+-- a menu has four octets at most beside those of its modulation group, and so seven with those of the house
+pub menu-most : (count : ℕ) (offer : Offer) → length (menuOf count offer) ≤ 4 + count
+menu-most count offer = omega (arith, menu-length count offer, bit-small (ltb 0 (offer .pcm)), bit-small (offer .lapm), bit-small (offer .access))
+
+pub menu-short : (offer : Offer) → length (menuOf houseCount offer) ≤ 7
+menu-short offer = menu-most houseCount offer
 
 -- refusals of a menu that is made from a record, by the tests
 pub bad-record : (own : Record) → badRecord own ≡ true → 10 ≡ recordFault own
@@ -94,8 +118,8 @@ no-first [] h = refl
 no-first (b ∷ octets) h = absurd (omega (arith, h))
 
 -- a menu with a field: its size decides first
-pub with-length : (offer : Offer) (blocks : List ℕ) → length (withField offer blocks) ≡ length (menuOf offer) + length (fieldOf blocks)
-with-length offer blocks = length-append (menuOf offer) (fieldOf blocks)
+pub with-length : (offer : Offer) (blocks : List ℕ) → length (withField offer blocks) ≡ length (menuOf houseCount offer) + length (fieldOf blocks)
+with-length offer blocks = length-append (menuOf houseCount offer) (fieldOf blocks)
 
 pub size-over : (menu : List ℕ) → 64 < length menu → 4 ≡ sizeFault menu
 unfolding when

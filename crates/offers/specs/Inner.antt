@@ -15,6 +15,10 @@ pub record Writes (octets out : List ℕ) (r : ℕ) (after : List ℕ) : Type 0 
   pub count : r ≡ length octets
   pub buffer : after ≡ front octets out
 
+-- a menu, where it is not refused
+abbrev pub putMenu : List ℕ → List ℕ → WriteOutcome
+putMenu menu out = put (before (sizeFault menu) (roomFault menu out)) menu out
+
 -- a menu with a field, where it is not refused
 abbrev pub putWithField : Offer → List ℕ → List ℕ → WriteOutcome
 putWithField offer blocks out =

@@ -1,5 +1,5 @@
 -- Document 01, 'Menus we make': CM, JM and the call function octet.
-use Prim.Native.Nat.{ℕ}
+use Prim.Native.Nat.{ℕ, zero, suc}
 use mathlib.Core.Bool.{Bool}
 use mathlib.Core.List.{List, [], _∷_, _++_}
 use lib.Dec.{ltb}
@@ -11,9 +11,9 @@ use Rattle.refusals.specs.Lent.{WriteOutcome, roomFault, put}
 use Rattle.octets.specs.declared.Purpose.the-variants.{Reading}
 use Rattle.octets.specs.Octets.{callFunctionTag, categoryOctet}
 use Rattle.octets.specs.Lists.{mostOctets, listFault, readable}
-use Rattle.items.specs.Items.{modulationOctet}
+use Rattle.items.specs.Items.{modulation, modulationOctet}
 use Rattle.menus.specs.declared.Offer.{Offer}
-use Rattle.menus.specs.Groups.{optionsIn}
+use Rattle.menus.specs.Groups.{groupOf, optionsIn}
 use Rattle.menus.specs.Offer.{pcmTag, protocol, lapmOption, access, offerOf}
 use Rattle.fields.specs.Blocks.{blocksFault}
 use Rattle.fields.specs.Field.{fieldOf}
@@ -27,23 +27,32 @@ use Rattle.offers.specs.Offering.{cmOffer, jmOffer}
 abbrev pub oneOctet : Bool → ℕ → List ℕ
 oneOctet there octet = when there (octet ∷ []) []
 
--- "The modulation group has always three octets (house)."
-unfoldable pub modulationGroup : ℕ → List ℕ
-modulationGroup items = modulationOctet items 0 ∷ modulationOctet items 1 ∷ modulationOctet items 2 ∷ []
+-- octets of a modulation group from one on, so many of them
+unfoldable pub modulationFrom : ℕ → ℕ → ℕ → List ℕ
+modulationFrom items octet zero = []
+modulationFrom items octet (suc more) = modulationOctet items octet ∷ modulationFrom items (suc octet) more
+
+-- a modulation group of so many octets; document 02, Req 03: "extra ones are 10 hex"
+abbrev pub modulationGroup : ℕ → ℕ → List ℕ
+modulationGroup count items = modulationFrom items 0 count
+
+-- "The modulation group has always three octets (house).": in CM, and in JM "With a mode in common"
+abbrev pub houseCount : ℕ
+houseCount = 3
 
 -- "Group order is house: call function, modulation, PCM, protocol, access."
-abbrev pub groupsOf : Offer → List (List ℕ)
-groupsOf offer =
+abbrev pub groupsOf : ℕ → Offer → List (List ℕ)
+groupsOf count offer =
     (categoryOctet callFunctionTag (offer .function) ∷ [])
-    ∷ modulationGroup (offer .items)
+    ∷ modulationGroup count (offer .items)
     ∷ oneOctet (ltb 0 (offer .pcm)) (categoryOctet pcmTag (offer .pcm))
     ∷ oneOctet (offer .lapm) (categoryOctet protocol lapmOption)
     ∷ oneOctet (offer .access) (categoryOctet access (offer .«access_options»))
     ∷ []
 
--- the menu that says an offer
-abbrev pub menuOf : Offer → List ℕ
-menuOf offer = joined (groupsOf offer)
+-- the menu that says an offer, with so many octets in its modulation group
+abbrev pub menuOf : ℕ → Offer → List ℕ
+menuOf count offer = joined (groupsOf count offer)
 
 -- "the first octet of the heard CM, or of our own CM for the home function. With a bad record, or where reading either menu refuses, it is
 -- the empty part and no number; our own CM's function isn't tested."
@@ -80,9 +89,9 @@ functionFault own function = when (flag (inUse own function .available)) 0 5
 
 -- document 02, Req 02: "The field stands last in CM"; "With no blocks CM has no field."
 abbrev pub withField : Offer → List ℕ → List ℕ
-withField offer blocks = menuOf offer ++ fieldOf blocks
+withField offer blocks = menuOf houseCount offer ++ fieldOf blocks
 
--- "4 also for a CM that would pass 64 octets with the field", or 0
+-- "4 also for a CM that would pass 64 octets with the field", and "A JM that would pass 64 octets", or 0
 abbrev pub sizeFault : List ℕ → ℕ
 sizeFault menu = when (ltb mostOctets (length menu)) 4 0
 
@@ -92,8 +101,17 @@ madeCm own function blocks out =
     let menu = withField (cmOffer own function) blocks in
     put (before (recordFault own) (before (functionFault own function) (before (sizeFault menu) (before (blocksFault blocks) (roomFault menu out))))) menu out
 
--- "menus from records 10, then the heard CM's refusals or 5, then 6"; "JM never carries it"
+-- document 02, Req 03: "with no mode in common, or with another function, JM holds the same number of modulation octets as CM", "none if it had
+-- none"; "With a mode in common it stays at three.": a mode is an item of JM from 1 to 12, so item 0 alone is none
+abbrev pub modulationCount : Offer → List ℕ → ℕ
+modulationCount jm heardCm = when (ltb 1 (jm .items)) houseCount (length (groupOf heardCm modulation))
+
+-- the JM for a heard CM
+abbrev pub jmMenu : Record → List ℕ → List ℕ
+jmMenu own heardCm = let jm = jmOffer own (offerOf heardCm) in menuOf (modulationCount jm heardCm) jm
+
+-- "menus from records 10, then the heard CM's refusals or 5, then 6"; "A JM that would pass 64 octets is refused with 4, just before 6."; "JM never carries it"
 abbrev pub madeJm : Record → List ℕ → List ℕ → WriteOutcome
 madeJm own heardCm out =
-    let menu = menuOf (jmOffer own (offerOf heardCm)) in
-    put (before (recordFault own) (before (listFault Reading heardCm) (roomFault menu out))) menu out
+    let menu = jmMenu own heardCm in
+    put (before (recordFault own) (before (listFault Reading heardCm) (before (sizeFault menu) (roomFault menu out)))) menu out

@@ -14,24 +14,24 @@ ghost use Prim.Native.Nat.{_<_, _≤_};
 ghost use denote.Ref.{ptr};
 ghost use lib.ListN.{length, take, getD};
 ghost use Rattle.laws.specs.Logic.{when};
-ghost use Rattle.refusals.specs.Lent.{roomFault, put, Meets};
+ghost use Rattle.refusals.specs.Lent.{Meets};
 ghost use Rattle.octets.specs.Octets.{callFunctionTag, categoryOctet};
 ghost use Rattle.octets.specs.Lists.{readable};
 ghost use Rattle.menus.specs.Offer.{offerOf};
 ghost use Rattle.records.specs.Record.{badRecord};
 ghost use Rattle.offers.specs.Offering.{bit, withItem0, accessOptions, cmOfferOf, withItem1, jmOfferOf, jmOffer};
-ghost use Rattle.offers.specs.Making.{oneOctet, modulationGroup, groupsOf, menuOf, sourceOf, callFunction, frontOf, madeCm, madeJm};
-ghost use Rattle.offers.specs.Inner.{Writes, putWithField};
+ghost use Rattle.offers.specs.Making.{oneOctet, modulationGroup, groupsOf, menuOf, sourceOf, callFunction, frontOf, madeCm, modulationCount, madeJm};
+ghost use Rattle.offers.specs.Inner.{Writes, putMenu, putWithField};
 
 // The groups of a menu, in their order: call function, modulation, PCM, protocol, access.
 const GROUPS: u8 = 5;
 
-// The octets that every menu has, the call function's and the modulation group's; and those of one with all groups.
-const SHORTEST_MENU: usize = 4;
+// The octets of a modulation group, but for a JM with no mode in common; and those of a menu with all groups then.
+const HOUSE_COUNT: u8 = 3;
 
 const LONGEST_MENU: usize = 7;
 
-// What a menu has at most, with a field.
+// What a menu has at most, with a field or with the count of a heard one.
 const MOST_OCTETS: usize = 64;
 
 // Where the call function octet of a JM stands: in the heard CM, in our own one, or nowhere.
@@ -148,28 +148,31 @@ fn write_octet(out: &mut [u8], there: bool, octet: u8) -> usize
     0
 }
 
-fn write_modulation(out: &mut [u8], items: u16) -> usize
-    requires { ⌜ 3 ≤ length (now out) ⌝ }
-    ensures { λ r. ⌜ Writes (modulationGroup items) (now (out .entry)) r (now (out .exit)) ⌝ }
+// A modulation group of so many octets. Answers how many that is.
+fn write_modulation(out: &mut [u8], count: u8, items: u16) -> usize
+    requires { ⌜ count ≤ length (now out) ⌝ }
+    ensures { λ r. ⌜ Writes (modulationGroup count items) (now (out .entry)) r (now (out .exit)) ⌝ }
 {
-    out[0] = items::modulation_octet(items, 0);
-    out[1] = items::modulation_octet(items, 1);
-    out[2] = items::modulation_octet(items, 2);
-    3
+    let mut k: u8 = 0;
+    while k < count {
+        out[k as usize] = items::modulation_octet(items, k);
+        k += 1;
+    }
+    count as usize
 }
 
 // A group of a menu, the call function's first. Answers how many octets that is.
-fn write_group(out: &mut [u8], call: u8, offer: Offer, k: u8) -> usize
+fn write_group(out: &mut [u8], call: u8, count: u8, offer: Offer, k: u8) -> usize
     requires { ⌜ call ≡ categoryOctet callFunctionTag (offer .function) ⌝ }
     requires { ⌜ k < 5 ⌝ }
-    requires { ⌜ length (getD (groupsOf offer) k []) ≤ length (now out) ⌝ }
-    ensures { λ r. ⌜ Writes (getD (groupsOf offer) k []) (now (out .entry)) r (now (out .exit)) ⌝ }
+    requires { ⌜ length (getD (groupsOf count offer) k []) ≤ length (now out) ⌝ }
+    ensures { λ r. ⌜ Writes (getD (groupsOf count offer) k []) (now (out .entry)) r (now (out .exit)) ⌝ }
 {
     if k == 0 {
         return write_octet(out, true, call);
     }
     if k == 1 {
-        return write_modulation(out, offer.items);
+        return write_modulation(out, count, offer.items);
     }
     if k == 2 {
         let octet = octets::category_octet(menus::PCM, offer.pcm);
@@ -184,38 +187,43 @@ fn write_group(out: &mut [u8], call: u8, offer: Offer, k: u8) -> usize
 }
 
 // The menu that says an offer, group by group, each into what is left behind the group before it. Answers how many octets it has.
-fn write_menu(out: &mut [u8], call: u8, offer: Offer) -> usize
+fn write_menu(out: &mut [u8], call: u8, count: u8, offer: Offer) -> usize
     requires { ⌜ call ≡ categoryOctet callFunctionTag (offer .function) ⌝ }
-    requires { ⌜ length (menuOf offer) ≤ length (now out) ⌝ }
-    ensures { λ r. ⌜ Writes (menuOf offer) (now (out .entry)) r (now (out .exit)) ⌝ }
+    requires { ⌜ length (menuOf count offer) ≤ length (now out) ⌝ }
+    ensures { λ r. ⌜ Writes (menuOf count offer) (now (out .entry)) r (now (out .exit)) ⌝ }
 {
     let mut at: usize = 0;
     let mut k: u8 = 0;
     while k < GROUPS {
-        at += write_group(&mut out[at..], call, offer, k);
+        at += write_group(&mut out[at..], call, count, offer, k);
         k += 1;
     }
     at
 }
 
-fn menu_size(offer: Offer) -> usize
-    ensures { λ r. ⌜ r ≡ length (menuOf offer) ⌝ }
+fn menu_size(count: u8, offer: Offer) -> usize
+    ensures { λ r. ⌜ r ≡ length (menuOf count offer) ⌝ }
 {
-    SHORTEST_MENU
+    1
+        + count as usize
         + bit_of(0 < offer.pcm) as usize
         + bit_of(offer.lapm) as usize
         + bit_of(offer.access) as usize
 }
 
-// The menu that says an offer, where there is room for it.
-fn put_menu(out: &mut [u8], call: u8, offer: Offer) -> Wrote
+// The menu that says an offer, where it is not too long and there is room for it.
+fn put_menu(out: &mut [u8], call: u8, count: u8, offer: Offer) -> Wrote
     requires { ⌜ call ≡ categoryOctet callFunctionTag (offer .function) ⌝ }
-    ensures { λ r. ⌜ Meets (put (roomFault (menuOf offer) (now (out .entry))) (menuOf offer) (now (out .entry))) r (now (out .exit)) ⌝ }
+    ensures { λ r. ⌜ Meets (putMenu (menuOf count offer) (now (out .entry))) r (now (out .exit)) ⌝ }
 {
-    if out.len() < menu_size(offer) {
+    let size = menu_size(count, offer);
+    if MOST_OCTETS < size {
+        return Wrote::Refused(Refusal::TooManyOctets);
+    }
+    if out.len() < size {
         return Wrote::Refused(Refusal::ShortBuffer);
     }
-    Wrote::Count(write_menu(out, call, offer))
+    Wrote::Count(write_menu(out, call, count, offer))
 }
 
 // The menu that says an offer, and behind it the field of our own blocks, where there is room for both.
@@ -223,7 +231,7 @@ fn put_with_field(out: &mut [u8], call: u8, offer: Offer, blocks: &[u8]) -> Wrot
     requires { ⌜ call ≡ categoryOctet callFunctionTag (offer .function) ⌝ }
     ensures { λ r. ⌜ Meets (putWithField offer (now (blocks .entry)) (now (out .entry))) r (now (out .exit)) ⌝ }
 {
-    let size = menu_size(offer);
+    let size = menu_size(HOUSE_COUNT, offer);
     let whole = size + fields::field_size(blocks);
     if MOST_OCTETS < whole {
         return Wrote::Refused(Refusal::TooManyOctets);
@@ -232,7 +240,7 @@ fn put_with_field(out: &mut [u8], call: u8, offer: Offer, blocks: &[u8]) -> Wrot
         if out.len() < whole {
             return Wrote::Refused(Refusal::ShortBuffer);
         }
-        write_menu(out, call, offer);
+        write_menu(out, call, HOUSE_COUNT, offer);
         fields::put_field(blocks, &mut out[size..]);
         return Wrote::Count(whole);
     }
@@ -305,9 +313,21 @@ fn answer_octet(own: Record, heard_cm: &[u8]) -> u8
     let call = octets::category_octet(CALL_FUNCTION, home);
     let offer = cm_offer(own, home, records::in_use(own, home));
     let mut own_cm = [0u8; LONGEST_MENU];
-    let size = write_menu(&mut own_cm, call, offer);
+    let size = write_menu(&mut own_cm, call, HOUSE_COUNT, offer);
     let part = call_function(own, heard_cm, &own_cm[0..size]);
     part[0]
+}
+
+// The octets of a JM's modulation group: as many as the heard CM has in its first one, where no mode is in common.
+fn modulation_count(jm: Offer, heard_cm: &[u8]) -> u8
+    requires { ⌜ readable (now «heard_cm») ≡ true ⌝ }
+    ensures { λ r. ⌜ r ≡ modulationCount jm (now («heard_cm» .entry)) ⌝ }
+{
+    if 1 < jm.items {
+        return HOUSE_COUNT;
+    }
+    let theirs = menus::group_of(heard_cm, items::MODULATION);
+    theirs.len() as u8
 }
 
 // Makes the JM for a heard CM, and answers how many octets it has.
@@ -323,7 +343,8 @@ pub fn make_jm(own: Record, heard_cm: &[u8], out: &mut [u8]) -> Wrote
         ReadMenu::Offers(theirs) => {
             let modes = records::in_use(own, theirs.function);
             let call = answer_octet(own, heard_cm);
-            put_menu(out, call, jm_offer(own, theirs, modes))
+            let jm = jm_offer(own, theirs, modes);
+            put_menu(out, call, modulation_count(jm, heard_cm), jm)
         }
     }
 }

@@ -1,11 +1,9 @@
 -- `items::modulation_octet` meets its contract: the number of the octet decides, and each of the three is put together from its items' bits.
 -- Assumes nothing.
 use borrow.Author.Needs.{needs}
-use borrow.Author.Tests.{ne-eqb}
+use native.Mathlib.Omega.{arith}
 use mathlib.Core.Path.{sym}
-use Rattle.laws.specs.Logic.{when}
-use Rattle.items.specs.Items.{places, placeOf, itemBits, modulationOctet}
-use Rattle.items.proofs.Places.{octet-0, octet-1, octet-2}
+use Rattle.items.proofs.Places.{octet-0, octet-1, octet-2, octet-past}
 use Rattle.items.proofs.modulation_octet.Statement.{statement}
 use Rattle.items.proofs.modulation_octet.Tie as tie
 
@@ -34,8 +32,9 @@ returns-3 : tie.Need-returns-3
 returns-3 c = simp (c .extension-octet2 .ensures, c .before .if3 .taken, octet-2)
 
 returns-4 : tie.Need-returns-4
-unfolding places placeOf itemBits modulationOctet when
-returns-4 c = simp (ne-eqb _ 0 (c .before .before .if1 .left), ne-eqb 0 _ (λ e. c .before .before .if1 .left (sym e)), ne-eqb 1 _ (λ e. c .before .if2 .left (sym e)), ne-eqb 2 _ (λ e. c .if3 .left (sym e)))
+returns-4 c =
+    let entry = c .before .before .before in
+    sym (octet-past (entry .args .items) (entry .args .octet) (omega (arith, c .before .before .if1 .left, c .before .if2 .left, c .if3 .left)))
 
 pub modulation-octet-spec : {M : Type 1} → statement M
 modulation-octet-spec =

@@ -14,7 +14,7 @@ use Rattle.octets.specs.Octets.{callFunctionTag, categoryOctet}
 use Rattle.menus.specs.Offer.{offerOf}
 use Rattle.records.specs.declared.Modes.{Modes}
 use Rattle.offers.specs.Offering.{cmOfferOf, cmOffer, jmOffer}
-use Rattle.offers.specs.Making.{menuOf, callFunction}
+use Rattle.offers.specs.Making.{houseCount, menuOf, callFunction}
 use Rattle.offers.proofs.Making.{menu-short}
 use Rattle.offers.proofs.Answering.{call-octet}
 use Rattle.offers.proofs.answer_octet.Statement.{statement}
@@ -65,10 +65,10 @@ part-is asked =
     let entry = made .before .before .before .before in
     let own = entry .args .own in
     let size = wrote .write-menu .result in
-    let menu = menuOf (made .cm-offer .result) in
+    let menu = menuOf houseCount (made .cm-offer .result) in
     let written : take (size - 0) (wrote .write-menu .last .0) ≡ menu = ap (λ (l : List ℕ). take (size - 0) l) (wrote .write-menu .ensures .buffer) ∙ take-at menu _ (size - 0) (omega (arith, wrote .write-menu .ensures .count)) in
     asked .call-function .ensures .0
-    ∙ ap (λ (l : List ℕ). callFunction own (now (entry .args .heard-cm)) l) (written ∙ ap menuOf (own-offer made))
+    ∙ ap (λ (l : List ℕ). callFunction own (now (entry .args .heard-cm)) l) (written ∙ ap (menuOf houseCount) (own-offer made))
     ∙ call-octet own (now (entry .args .heard-cm)) (entry .pre .0) (entry .pre .1) (made .before .before .before .shared-slice-known .given 0 .fits)
 
 shared-slice-read-result : tie.Need-shared-slice-read-result

@@ -11,7 +11,7 @@ use Rattle.refusals.proofs.Outcomes.{meets-short, meets-put, meets-refused, mee
 use Rattle.fields.specs.Blocks.{blocksFault}
 use Rattle.fields.specs.Field.{fieldOf}
 use Rattle.fields.proofs.Field.{field-most, blocks-fit, blocks-unfit}
-use Rattle.offers.specs.Making.{menuOf, withField, sizeFault}
+use Rattle.offers.specs.Making.{houseCount, menuOf, withField, sizeFault}
 use Rattle.offers.proofs.Making.{menu-short, with-length, size-over, size-fits, room-put}
 use Rattle.offers.proofs.put_with_field.Statement.{statement}
 use Rattle.offers.proofs.put_with_field.Tie as tie
@@ -98,10 +98,10 @@ returns-3 c =
     let at = sized .before .menu-size .ensures in
     let room : length menu ≤ length out = omega (arith, whole sized, wrote .before .before .if3 .left) in
     let before-it : sized .before .menu-size .result ≤ length out = omega (arith, room, with-length offer (now (args .blocks)), at) in
-    let left = lent-length (menuOf offer) out (wrote .write-menu .last .0) (sized .before .menu-size .result) at before-it (wrote .write-menu .ensures .buffer) in
+    let left = lent-length (menuOf houseCount offer) out (wrote .write-menu .last .0) (sized .before .menu-size .result) at before-it (wrote .write-menu .ensures .buffer) in
     let rest = take (length (wrote .write-menu .last .0) - sized .before .menu-size .result) (drop (sized .before .menu-size .result) (wrote .write-menu .last .0)) in
     let behind = room-put field rest (put-it .put-field .last .1 .0) (omega (arith, left, room, with-length offer (now (args .blocks)), at)) (put-it .put-field .ensures .buffer) in
-    let both-written = front-then (menuOf offer) out (wrote .write-menu .last .0) (sized .before .menu-size .result) at before-it (wrote .write-menu .ensures .buffer) field (put-it .put-field .last .1 .0) behind in
+    let both-written = front-then (menuOf houseCount offer) out (wrote .write-menu .last .0) (sized .before .menu-size .result) at before-it (wrote .write-menu .ensures .buffer) field (put-it .put-field .last .1 .0) behind in
     meets-accepted menu out _ _ _ _ (accepted then .0)
     (meets-accepted menu out _ _ _ _ (accepted then .1)
     (meets-put menu out _ _ room (whole sized) both-written))

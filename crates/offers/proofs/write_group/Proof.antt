@@ -8,20 +8,20 @@ use mathlib.Core.Path.{_≡_, sym}
 use lib.ListN.{length, getD}
 use denote.Ref.{now}
 use Rattle.laws.specs.Logic.{when}
-use Rattle.offers.specs.Making.{modulationGroup, groupsOf}
+use Rattle.offers.specs.Making.{groupsOf}
 use Rattle.offers.specs.Inner.{Writes}
-use Rattle.offers.proofs.Making.{group-room, group-written}
+use Rattle.offers.proofs.Making.{group-room, group-written, modulation-length}
 use Rattle.offers.proofs.write_group.Statement.{statement}
 use Rattle.offers.proofs.write_group.Tie as tie
 
 module _ (entry : tie.Start) (n : ℕ) (same : entry .args .k ≡ n) where
   -- there is room for the group of this number
-  room : length (getD (groupsOf (entry .args .offer)) n []) ≤ length (now (entry .args .out))
-  room = group-room (entry .args .offer) (entry .args .k) n same (now (entry .args .out)) (entry .pre .1 .1)
+  room : length (getD (groupsOf (entry .args .count) (entry .args .offer)) n []) ≤ length (now (entry .args .out))
+  room = group-room (entry .args .count) (entry .args .offer) (entry .args .k) n same (now (entry .args .out)) (entry .pre .1 .1)
 
   -- and what is written for it is the group that was asked for
-  written : (r : ℕ) (after : List ℕ) → Writes (getD (groupsOf (entry .args .offer)) n []) (now (entry .args .out)) r after → Writes (getD (groupsOf (entry .args .offer)) (entry .args .k) []) (now (entry .args .out)) r after
-  written r after w = group-written (entry .args .offer) (entry .args .k) n same (now (entry .args .out)) r after w
+  written : (r : ℕ) (after : List ℕ) → Writes (getD (groupsOf (entry .args .count) (entry .args .offer)) n []) (now (entry .args .out)) r after → Writes (getD (groupsOf (entry .args .count) (entry .args .offer)) (entry .args .k) []) (now (entry .args .out)) r after
+  written r after w = group-written (entry .args .count) (entry .args .offer) (entry .args .k) n same (now (entry .args .out)) r after w
 
 -- the last group is left
 last : (left : tie.Else4) → left .before .before .before .before .before .args .k ≡ 4
@@ -44,8 +44,9 @@ returns c =
     written entry 0 (taken .if1 .taken) _ _ (rw (sym (entry .pre .0)) (c .before .before .write-octet .ensures))
 
 write-modulation-requires : tie.Need-write-modulation-requires
-unfolding modulationGroup
-write-modulation-requires c κs = room (c .before .before .before .before) 1 (c .before .if2 .taken)
+write-modulation-requires c κs =
+    let entry = c .before .before .before .before in
+    omega (arith, modulation-length (entry .args .offer .items) (entry .args .count), room entry 1 (c .before .if2 .taken))
 
 same-length-2 : tie.Need-same-length-2
 same-length-2 c = search needs

@@ -17,27 +17,27 @@ use Rattle.offers.proofs.write_menu.Statement.{statement}
 use Rattle.offers.proofs.write_menu.Tie as tie
 
 abbrev Inv-loop : tie.InvT-loop
-Inv-loop out₀ call offer at₀ k₀ out at k = (k ≤ 5) × (at ≡ length (joined (take k (groupsOf offer)))) × (out ≡ front (joined (take k (groupsOf offer))) out₀)
+Inv-loop out₀ call count offer at₀ k₀ out at k = (k ≤ 5) × (at ≡ length (joined (take k (groupsOf count offer)))) × (out ≡ front (joined (take k (groupsOf count offer))) out₀)
 
 abbrev μ-loop : tie.MeasureT-loop
-μ-loop out₀ call offer at₀ k₀ out at k = 5 - k
+μ-loop out₀ call count offer at₀ k₀ out at k = 5 - k
 
 -- the groups so far fit, and the buffer is as long as it was lent
 within : (at-loop : tie.At-loop Inv-loop μ-loop) → at-loop .loop .at ≤ length (now (at-loop .before .before .args .out))
 within at-loop =
     let entry = at-loop .before .before in
-    omega (arith, at-loop .loop .inv .1, entry .pre .1, joined-within (groupsOf (entry .args .offer)) (at-loop .loop .k))
+    omega (arith, at-loop .loop .inv .1, entry .pre .1, joined-within (groupsOf (entry .args .count) (entry .args .offer)) (at-loop .loop .k))
 
 long : (at-loop : tie.At-loop Inv-loop μ-loop) → length (at-loop .loop .out) ≡ length (now (at-loop .before .before .args .out))
 long at-loop =
     let entry = at-loop .before .before in
-    ap length (at-loop .loop .inv .2) ∙ front-length (joined (take (at-loop .loop .k) (groupsOf (entry .args .offer)))) (now (entry .args .out)) (omega (arith, within at-loop, at-loop .loop .inv .1))
+    ap length (at-loop .loop .inv .2) ∙ front-length (joined (take (at-loop .loop .k) (groupsOf (entry .args .count) (entry .args .offer)))) (now (entry .args .out)) (omega (arith, within at-loop, at-loop .loop .inv .1))
 
 -- and so does one more
-room : (at-loop : tie.At-loop Inv-loop μ-loop) → at-loop .loop .at + length (getD (groupsOf (at-loop .before .before .args .offer)) (at-loop .loop .k) []) ≤ length (now (at-loop .before .before .args .out))
+room : (at-loop : tie.At-loop Inv-loop μ-loop) → at-loop .loop .at + length (getD (groupsOf (at-loop .before .before .args .count) (at-loop .before .before .args .offer)) (at-loop .loop .k) []) ≤ length (now (at-loop .before .before .args .out))
 room at-loop =
     let entry = at-loop .before .before in
-    let groups = groupsOf (entry .args .offer) in
+    let groups = groupsOf (entry .args .count) (entry .args .offer) in
     omega (arith, at-loop .loop .inv .1, entry .pre .1, joined-more-length groups (at-loop .loop .k), joined-within groups (at-loop .loop .k + 1))
 
 loop-holds : tie.Need-loop-holds Inv-loop μ-loop
@@ -57,7 +57,7 @@ write-group-requires : tie.Need-write-group-requires Inv-loop μ-loop
 write-group-requires c κs =
     let at-loop = c .before .before in
     let entry = at-loop .before .before in
-    let left = lent-length (joined (take (at-loop .loop .k) (groupsOf (entry .args .offer)))) (now (entry .args .out)) (at-loop .loop .out) (at-loop .loop .at) (at-loop .loop .inv .1) (within at-loop) (at-loop .loop .inv .2) in
+    let left = lent-length (joined (take (at-loop .loop .k) (groupsOf (entry .args .count) (entry .args .offer)))) (now (entry .args .out)) (at-loop .loop .out) (at-loop .loop .at) (at-loop .loop .inv .1) (within at-loop) (at-loop .loop .inv .2) in
     (entry .pre .0, (search needs, omega (arith, room at-loop, left)))
 
 add-at : tie.Need-add-at Inv-loop μ-loop
@@ -76,7 +76,7 @@ loop-again c =
     let wrote = c .before .before in
     let at-loop = wrote .before .before .before in
     let entry = at-loop .before .before in
-    let groups = groupsOf (entry .args .offer) in (
+    let groups = groupsOf (entry .args .count) (entry .args .offer) in (
       search needs,
       omega (arith, at-loop .loop .inv .1, wrote .write-group .ensures .count, joined-more-length groups (at-loop .loop .k)),
       front-then (joined (take (at-loop .loop .k) groups)) (now (entry .args .out)) (at-loop .loop .out) (at-loop .loop .at) (at-loop .loop .inv .1) (within at-loop) (at-loop .loop .inv .2) (getD groups (at-loop .loop .k) []) (wrote .write-group .last .0) (wrote .write-group .ensures .buffer)
@@ -90,7 +90,7 @@ returns : tie.Need-returns Inv-loop μ-loop
 returns c =
     let at-loop = c .before in
     let entry = at-loop .before .before in
-    let groups = groupsOf (entry .args .offer) in
+    let groups = groupsOf (entry .args .count) (entry .args .offer) in
     let all : at-loop .loop .k ≡ 5 = omega (arith, at-loop .loop .inv .0, c .loop-test .left) in
     record {
       count = at-loop .loop .inv .1 ∙ ap (λ (k : ℕ). length (joined (take k groups))) all;
