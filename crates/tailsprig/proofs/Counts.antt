@@ -25,15 +25,14 @@ use Rattle.sequences.specs.Writing.{written, writtenCj}
 use Rattle.sequences.proofs.Lines.{line-length, line-small, cj-length}
 use Rattle.menus.specs.Groups.{Looked, place, nowhere, looked, groupOf}
 use Rattle.menus.specs.Groups as groups
-use Rattle.menus.specs.Offer.{offerOf}
 use Rattle.menus.proofs.Looking.{Below, looked-below}
 use Rattle.fields.specs.Blocks.{blocksFault}
 use Rattle.fields.specs.Field.{fieldTag, fieldOctets, fieldRead}
 use Rattle.fields.proofs.Finding.{field-few}
 use Rattle.records.specs.declared.Record.{Record}
-use Rattle.offers.specs.Offering.{cmOffer, jmOffer}
-use Rattle.offers.specs.Making.{recordFault, functionFault, withField, sizeFault, madeCm, madeJm}
-use Rattle.offers.proofs.Making.{menu-short, size-short}
+use Rattle.offers.specs.Offering.{cmOffer}
+use Rattle.offers.specs.Making.{recordFault, functionFault, withField, sizeFault, madeCm, jmMenu, madeJm}
+use Rattle.offers.proofs.Making.{size-short}
 use Rattle.codes.specs.Writing.{writeCode, cutSaid}
 use Rattle.codes.specs.Reading.{cutLooked}
 use Rattle.codes.proofs.Codes.{read-answer}
@@ -68,7 +67,11 @@ pub field-whole : (heard out : List ℕ) → Whole (fieldRead heard out .answer)
 field-whole heard out = put-whole _ (fieldOctets (groupOf heard fieldTag)) out (λ e. omega (arith, field-few heard (before-none (listFault Reading heard) _ e .0)))
 
 pub jm-whole : (own : Record) (heardCm out : List ℕ) → Whole (madeJm own heardCm out .answer)
-jm-whole own heardCm out = put-whole _ _ out (λ _. omega (arith, menu-short (jmOffer own (offerOf heardCm))))
+jm-whole own heardCm out =
+    let menu = jmMenu own heardCm in
+    let others = before (sizeFault menu) (roomFault menu out) in
+    put-whole _ menu out
+    (λ e. omega (arith, size-short menu (before-none (sizeFault menu) _ (before-none (listFault Reading heardCm) others (before-none (recordFault own) _ e .1) .1) .0)))
 
 pub returns-as : (laid : WriteOutcome) (w : Wrote) (after : List ℕ) (r : ℤ) → Whole (laid .answer) → Meets laid w after → mag r < 2 ^ 31 → r ≡ writeCode (cutSaid (saysWrote w)) → Returns laid (toZ w32 (ofZ w32 r)) after
 returns-as laid w after r whole m fits e = record {
