@@ -20,7 +20,7 @@ use Rattle.fields.specs.Packing.{joinedBits, groupsOf, packed}
 use Rattle.fields.specs.Blocks.{blocksBehind, full, blocksFault}
 use Rattle.fields.specs.Field.{fieldOf}
 use Rattle.records.specs.Record.{modesAt, anyBad, badRecord}
-use Rattle.offers.specs.Making.{modulationGroup}
+use Rattle.offers.specs.Making.{modulationFrom}
 use Rattle.choices.specs.Choosing.{lowestFrom, pcmChoice, itemChoice, chosenFrom}
 use Rattle.records.specs.declared.Record.{Record}
 use Rattle.steps.specs.declared.Session.{Session}
@@ -108,7 +108,7 @@ happens choice caller answerer blocks last callerEvents answererEvents calling a
 }
 
 pub calls-happen : CallsHappen
-unfolding when both either joined firstFault untilCategory places placeOf hasItem setOf inSet itemBits modulationOctet firstGroup frontPart groupOf menuRead paired modesAt anyBad badRecord modulationGroup every joinedBits groupsOf packed blocksBehind full fieldOf lowestFrom pcmChoice itemChoice chosenFrom rows inRange elapsed applies findRow timed steppedIn ordered carries
+unfolding when both either joined firstFault untilCategory places placeOf hasItem setOf inSet itemBits modulationOctet firstGroup frontPart groupOf menuRead paired modesAt anyBad badRecord modulationFrom every joinedBits groupsOf packed blocksBehind full fieldOf lowestFrom pcmChoice itemChoice chosenFrom rows inRange elapsed applies findRow timed steppedIn ordered carries
 calls-happen = record {
   goesOn = happens _ _ _ _ _ _ _ (refl, refl) (refl, refl) refl (refl, refl) refl refl byCj (refl, refl) (refl, refl);
   withBlocks = happens _ _ _ _ _ _ _ (refl, refl) (refl, refl) refl (refl, refl) refl refl byCj (refl, refl) (refl, refl);

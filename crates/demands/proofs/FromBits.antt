@@ -1,7 +1,7 @@
 -- From two records to both ends' sessions: what is written is heard as it was made, so the whole call holds of what the bits bring. And there
 -- is such an exchange for every call: each buffer is as long as what is put there.
 -- Assumes nothing.
-use Prim.Native.Nat.{ℕ, suc, _≤_}
+use Prim.Native.Nat.{ℕ, zero, suc, _<_, _≤_}
 use native.Mathlib.Omega.{arith}
 use mathlib.Core.Path.{_≡_, refl, sym, ap, subst, _∙_}
 use mathlib.Core.Bool.{Bool, true, false}
@@ -20,7 +20,7 @@ use Rattle.octets.specs.declared.Purpose.the-variants.{Writing}
 use Rattle.octets.specs.Octets.{callFunctionTag, categoryOctet}
 use Rattle.octets.specs.Lists.{listFault}
 use Rattle.items.specs.Items.{modulationOctet}
-use Rattle.items.proofs.Places.{octet-0, octet-1, octet-2}
+use Rattle.items.proofs.Places.{octet-0, octet-1, octet-2, octet-past}
 use Rattle.menus.specs.declared.Offer.{Offer}
 use Rattle.menus.specs.Offer.{pcmTag, protocol, lapmOption, access, offerOf}
 use Rattle.refusals.specs.Refusals.{before}
@@ -38,7 +38,7 @@ use Rattle.fields.specs.Field.{fieldTag, fieldOf}
 use Rattle.fields.proofs.Packing.{packed-small}
 use Rattle.records.specs.declared.Record.{Record}
 use Rattle.offers.specs.Offering.{cmOffer, jmOffer}
-use Rattle.offers.specs.Making.{oneOctet, modulationGroup, menuOf, withField}
+use Rattle.offers.specs.Making.{oneOctet, modulationFrom, houseCount, menuOf, withField, modulationCount}
 use Rattle.offers.proofs.Making.{size-fits}
 use Rattle.offers.proofs.Meaning.{menu-writable}
 use Rattle.offers.proofs.Fields.{with-readable, with-writable}
@@ -46,6 +46,7 @@ use Rattle.demands.specs.Joint.{cmOf, jmOf}
 use Rattle.demands.specs.OneChoice.{Call}
 use Rattle.demands.specs.FromBits.{Makes, Sends, Agreed, here, later, Exchange, ExchangeEnds}
 use Rattle.demands.proofs.Joint.{available-used}
+use Rattle.demands.proofs.OneChoice.{answered-fits}
 use Rattle.demands.proofs.WholeCall.{both-ends-end-with-the-named-choice}
 
 -- the octets of a menu that is made are octets
@@ -61,10 +62,16 @@ unfolding when every
 one-small true t o = octet-small t o
 one-small false t o = refl
 
-modulation-small : (items : ℕ) → octetsAll (modulationGroup items) ≡ true
-unfolding modulationGroup every both
-modulation-small items =
-    simp (lt-ltb (modulationOctet items 0) 256 (omega (arith, octet-0 items)), lt-ltb (modulationOctet items 1) 256 (omega (arith, octet-1 items)), lt-ltb (modulationOctet items 2) 256 (omega (arith, octet-2 items)))
+item-octet-small : (items octet : ℕ) → modulationOctet items octet < 256
+item-octet-small items zero = omega (arith, octet-0 items)
+item-octet-small items (suc zero) = omega (arith, octet-1 items)
+item-octet-small items (suc (suc zero)) = omega (arith, octet-2 items)
+item-octet-small items (suc (suc (suc octet))) = omega (arith, octet-past items (suc (suc (suc octet))) (omega arith))
+
+modulation-small : (n items octet : ℕ) → octetsAll (modulationFrom items octet n) ≡ true
+unfolding modulationFrom every both
+modulation-small zero items octet = refl
+modulation-small (suc more) items octet = simp (lt-ltb (modulationOctet items octet) 256 (item-octet-small items octet), modulation-small more items (suc octet))
 
 none-small : octetsAll (joined []) ≡ true
 unfolding joined every
@@ -74,13 +81,16 @@ more-small : (group : List ℕ) (groups : List (List ℕ)) → octetsAll group �
 unfolding joined
 more-small group groups = every-joined (λ (b : ℕ). ltb b 256) group (joined groups)
 
-menu-small : (offer : Offer) → octetsAll (menuOf offer) ≡ true
-menu-small offer =
+menu-small : (n : ℕ) (offer : Offer) → octetsAll (menuOf n offer) ≡ true
+menu-small n offer =
     more-small _ _ (octet-small callFunctionTag (offer .function))
-    (more-small _ _ (modulation-small (offer .items))
+    (more-small _ _ (modulation-small n (offer .items) 0)
     (more-small _ _ (one-small (ltb 0 (offer .pcm)) pcmTag (offer .pcm))
     (more-small _ _ (one-small (offer .lapm) protocol lapmOption)
     (more-small _ _ (one-small (offer .access) access (offer .«access_options»)) none-small))))
+
+jm-small : (own : Record) (heard : List ℕ) → octetsAll (jmOf own heard) ≡ true
+jm-small own heard = let jm = jmOffer own (offerOf heard) in menu-small (modulationCount jm heard) jm
 
 -- what is made stands in its buffer
 pub made-as : (f : ℕ) (menu lent octets : List ℕ) → Makes (put f menu lent) octets → octets ≡ menu
@@ -107,7 +117,7 @@ field-small blocks =
     either-way (λ (l : List ℕ). octetsAll l ≡ true) (eqb (length blocks) 0) [] (categoryOctet fieldTag 0 ∷ packed blocks) (λ _. refl) (λ _. packed-small blocks)
 
 pub with-small : (offer : Offer) (blocks : List ℕ) → octetsAll (withField offer blocks) ≡ true
-with-small offer blocks = every-joined (λ (b : ℕ). ltb b 256) (menuOf offer) (fieldOf blocks) (menu-small offer) (field-small blocks)
+with-small offer blocks = every-joined (λ (b : ℕ). ltb b 256) (menuOf houseCount offer) (fieldOf blocks) (menu-small houseCount offer) (field-small blocks)
 
 module _ (caller answerer : Record) (function : ℕ) (blocks : List ℕ) (call : Call caller answerer function blocks) (e : Exchange caller answerer function blocks) where
   cm-made : e .cm ≡ cmOf caller function blocks
@@ -120,7 +130,7 @@ module _ (caller answerer : Record) (function : ℕ) (blocks : List ℕ) (call :
   cm-heard = heard-as (e .cm) (e .cmBits) (e .heardCm) (rw cm-made (with-small (cmOffer caller function) blocks)) (e .sendsCm) (e .agreedCm)
 
   jm-heard : e .heardJm ≡ e .jm
-  jm-heard = heard-as (e .jm) (e .jmBits) (e .heardJm) (rw jm-made (menu-small (jmOffer answerer (offerOf (e .heardCm))))) (e .sendsJm) (e .agreedJm)
+  jm-heard = heard-as (e .jm) (e .jmBits) (e .heardJm) (rw jm-made (jm-small answerer (e .heardCm))) (e .sendsJm) (e .agreedJm)
 
   pub exchange-ends : ExchangeEnds caller answerer function blocks e
   exchange-ends = record {
@@ -165,6 +175,9 @@ exchange-happens caller answerer function blocks call fine =
     let cm = cmOf caller function blocks in
     let writable = with-writable (cmOffer caller function) blocks (size-fits cm (call .fits)) in
     let jm = jmOf answerer cm in
+    let answer = jmOffer answerer (offerOf cm) in
+    let short = answered-fits caller answerer function blocks call in
+    let answerable = menu-writable (modulationCount answer cm) answer short in
     record {
       cmLent = cm;
       cm = cm;
@@ -175,9 +188,9 @@ exchange-happens caller answerer function blocks call fine =
       agreedCm = agrees-it cm (with-small (cmOffer caller function) blocks) writable;
       jmLent = jm;
       jm = jm;
-      makesJm = makes-it _ jm (simp (call .answering .good, with-readable (cmOffer caller function) blocks (size-fits cm (call .fits)), room-there jm));
+      makesJm = makes-it _ jm (simp (call .answering .good, with-readable (cmOffer caller function) blocks (size-fits cm (call .fits)), size-fits jm short, room-there jm));
       jmBits = copies 2 (sequence Menu jm) ++ tenOnes;
-      sendsJm = sends-it jm (menu-writable (jmOffer answerer (offerOf cm)));
+      sendsJm = sends-it jm answerable;
       heardJm = jm;
-      agreedJm = agrees-it jm (menu-small (jmOffer answerer (offerOf cm))) (menu-writable (jmOffer answerer (offerOf cm)));
+      agreedJm = agrees-it jm (jm-small answerer cm) answerable;
     }

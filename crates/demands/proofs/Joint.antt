@@ -7,27 +7,29 @@ use native.Mathlib.Omega.{arith}
 use mathlib.Core.Path.{_≡_, refl, sym, ap, ap₂, _∙_}
 use mathlib.Core.Bool.{Bool, true, false}
 use mathlib.Core.List.{List}
-use borrow.Author.Tests.{eq-eqb, ne-eqb, eqb-true}
+use borrow.Author.Tests.{eq-eqb, ne-eqb, eqb-true, ltb-false}
 use lib.Dec.{ltb, eqb, lit<}
 use lib.ListN.{length}
 use Rattle.laws.specs.Logic.{when, both, either}
-use Rattle.laws.proofs.Logic.{both-neither, bit-of-test}
+use Rattle.laws.proofs.Logic.{either-way, both-neither, bit-of-test}
 use Rattle.menus.specs.declared.Offer.{Offer}
-use Rattle.items.specs.Items.{inSet}
+use Rattle.items.specs.Items.{inSet, modulation}
+use Rattle.menus.specs.Groups.{groupOf}
 use Rattle.menus.specs.Offer.{offerOf, offers}
 use Rattle.items.proofs.Bits.{in-both, same-half}
-use Rattle.items.proofs.Sets.{none-in}
+use Rattle.items.proofs.Sets.{none-in, past-set}
 use Rattle.menus.proofs.Reading.{menu-read}
 use Rattle.records.specs.declared.Modes.{Modes}
 use Rattle.records.specs.declared.Record.{Record}
 use Rattle.records.specs.Record.{flag, noModes, modesAt, inUse}
 use Rattle.offers.specs.Offering.{bit, withItem0, accessOptions, cmAccess, cmOffer, withItem1, sharedItems, jmPcm, jmOffer}
 use Rattle.menus.specs.Pcm.{analogue, digital, v91, paired}
-use Rattle.offers.proofs.Making.{bit-small, size-fits}
-use Rattle.offers.proofs.Meaning.{menu-readable, menu-writable, read-back}
-use Rattle.offers.proofs.Fields.{offer-kept, with-readable, with-writable}
+use Rattle.offers.specs.Making.{houseCount, menuOf, modulationCount}
+use Rattle.offers.proofs.Making.{modulation-length, bit-small, size-fits}
+use Rattle.offers.proofs.Meaning.{Sayable, menu-readable, menu-writable, withItems, modulation-found, read-with, read-back, jm-items}
+use Rattle.offers.proofs.Fields.{other-group, offer-kept, with-readable, with-writable}
 use Rattle.offers.proofs.Saying.{cm-sayable, jm-sayable}
-use Rattle.demands.specs.Joint.{AcceptedRecord, cmOf, jmOf, has, filledIn, isAvailable, hasFor, pcmFor, saysCellular, SaysWhatTheRecordHas, HoldsWhatBothHave, HoldsWhatBothRecordsHave, IsReadBack}
+use Rattle.demands.specs.Joint.{AcceptedRecord, cmOf, jmOf, jmSays, has, filledIn, isAvailable, hasFor, pcmFor, saysCellular, SaysWhatTheRecordHas, HoldsWhatBothHave, HoldsWhatBothRecordsHave, IsReadBack}
 use Rattle.demands.specs.OneChoice.{Call}
 use Rattle.demands.proofs.Shared.{has-read, crosswise}
 
@@ -35,19 +37,44 @@ use Rattle.demands.proofs.Shared.{has-read, crosswise}
 cm-back : (own : Record) → AcceptedRecord own → (function : ℕ) (blocks : List ℕ) → inUse own function .available ≡ 1 → offerOf (cmOf own function blocks) ≡ cmOffer own function
 cm-back own good function blocks there = offer-kept (cmOffer own function) blocks ∙ read-back (cmOffer own function) (cm-sayable own (good .six) (good .good) function there)
 
-pub jm-back : (own : Record) → AcceptedRecord own → (heard : List ℕ) → offerOf (jmOf own heard) ≡ jmOffer own (offerOf heard)
-jm-back own good heard = read-back (jmOffer own (offerOf heard)) (jm-sayable own (good .six) (good .good) (offerOf heard) (omega arith))
+module _ (own : Record) (heard : List ℕ) where
+  abbrev pub offered : Offer
+  offered = jmOffer own (offerOf heard)
+
+  abbrev pub counted : ℕ
+  counted = modulationCount offered heard
+
+  pub group-counted : length (groupOf (jmOf own heard) modulation) ≡ counted
+  group-counted = ap length (modulation-found counted offered) ∙ modulation-length (offered .items) counted
+
+  module _ (good : AcceptedRecord own) where
+    pub sayable : Sayable offered
+    sayable = jm-sayable own (good .six) (good .good) (offerOf heard) (omega arith)
+
+    pub jm-back : offerOf (jmOf own heard) ≡ jmSays own heard
+    jm-back =
+        read-with counted offered sayable
+        ∙ ap (withItems offered) (jm-items offered heard (sayable .items) ∙ ap (λ (n : ℕ). when (ltb 0 n) (offered .items) 0) (sym group-counted))
+
+    pub jm-is-read-back : length (jmOf own heard) ≤ 64 → IsReadBack (jmOf own heard) (jmSays own heard)
+    jm-is-read-back fits = record {
+      written = menu-writable counted offered fits;
+      read = menu-read (jmOf own heard) (menu-readable counted offered fits) ∙ ap offers jm-back;
+    }
+
+  -- item 0 may be missing where it stands alone, and no other
+  pub item-said : (i : ℕ) → 0 < i → inSet (jmSays own heard .items) i ≡ inSet (offered .items) i
+  unfolding when
+  item-said i low = rw group-counted
+      (either-way (λ (count : ℕ). inSet (when (ltb 0 count) (offered .items) 0) i ≡ inSet (offered .items) i) (ltb 1 (offered .items)) houseCount (length (groupOf heard modulation))
+      (λ _. refl)
+      (λ few. either-way (λ (items : ℕ). inSet items i ≡ inSet (offered .items) i) (ltb 0 (length (groupOf heard modulation))) (offered .items) 0 (λ _. refl)
+      (λ _. none-in i ∙ sym (past-set 1 (offered .items) i (omega (arith, ltb-false 1 (offered .items) few)) low))))
 
 pub cm-is-read-back : (own : Record) → AcceptedRecord own → (function : ℕ) (blocks : List ℕ) → inUse own function .available ≡ 1 → length (cmOf own function blocks) ≤ 64 → IsReadBack (cmOf own function blocks) (cmOffer own function)
 cm-is-read-back own good function blocks there short = record {
   written = with-writable (cmOffer own function) blocks (size-fits (cmOf own function blocks) short);
   read = menu-read (cmOf own function blocks) (with-readable (cmOffer own function) blocks (size-fits (cmOf own function blocks) short)) ∙ ap offers (cm-back own good function blocks there);
-}
-
-pub jm-is-read-back : (own : Record) → AcceptedRecord own → (heard : List ℕ) → IsReadBack (jmOf own heard) (jmOffer own (offerOf heard))
-jm-is-read-back own good heard = record {
-  written = menu-writable (jmOffer own (offerOf heard));
-  read = menu-read (jmOf own heard) (menu-readable (jmOffer own (offerOf heard))) ∙ ap offers (jm-back own good heard);
 }
 
 -- item 0 is apart from the others
@@ -132,28 +159,34 @@ unfolding when
 crossed true theirs ours = let bits = crosswise theirs ours in (bits .0 ∙ sym (one-mul _), bits .1 ∙ sym (one-mul _), bits .2)
 crossed false theirs ours = let bits = crosswise theirs ours in (omega arith, omega arith, omega (arith, bits .2))
 
-module _ (own : Record) (good : AcceptedRecord own) (heard : List ℕ) where
+-- the items of a JM from 1 on are those that are in both
+module _ (own : Record) (heard : List ℕ) where
   abbrev modes : Modes
   modes = inUse own (offerOf heard .function)
 
+  in-common : (i : ℕ) → i < 13 → inSet (sharedItems modes (offerOf heard)) i ≡ both (hasFor own (offerOf heard .function) i) (has heard i)
+  in-common i high = in-both (modes .items) (offerOf heard .items) i ∙ ap₂ both (sym (has-used own (offerOf heard .function) i)) (sym (has-read heard i high))
+
+  pub offered-item : (i : ℕ) → 0 < i → i < 13 → inSet (offered own heard .items) i ≡ both (hasFor own (offerOf heard .function) i) (has heard i)
+  offered-item i low high = beside-item-0 (ltb 0 (jmPcm modes (offerOf heard))) (sharedItems modes (offerOf heard)) i low ∙ in-common i high
+
+module _ (own : Record) (good : AcceptedRecord own) (heard : List ℕ) where
   -- an item of the JM, as one that is in both
-  item-shared : (i : ℕ) → 0 < i → i < 13 → has (jmOf own heard) i ≡ inSet (sharedItems modes (offerOf heard)) i
+  item-shared : (i : ℕ) → 0 < i → i < 13 → has (jmOf own heard) i ≡ inSet (sharedItems (modes own heard) (offerOf heard)) i
   item-shared i low high =
-      has-read (jmOf own heard) i high ∙ ap (λ (o : Offer). inSet (o .items) i) (jm-back own good heard)
-      ∙ beside-item-0 (ltb 0 (jmPcm modes (offerOf heard))) (sharedItems modes (offerOf heard)) i low
+      has-read (jmOf own heard) i high ∙ ap (λ (o : Offer). inSet (o .items) i) (jm-back own heard good) ∙ item-said own heard i low
+      ∙ beside-item-0 (ltb 0 (jmPcm (modes own heard) (offerOf heard))) (sharedItems (modes own heard) (offerOf heard)) i low
 
   pub pcm-made : offerOf (jmOf own heard) .pcm ≡ withItem1 (has (jmOf own heard) 1) (paired (offerOf heard .pcm) (pcmFor own (offerOf heard .function)))
   pcm-made =
-      ap (λ (o : Offer). o .pcm) (jm-back own good heard)
+      ap (λ (o : Offer). o .pcm) (jm-back own heard good)
       ∙ ap₂ (λ (t : Bool) (n : ℕ). withItem1 t (paired (offerOf heard .pcm) n)) (sym (item-shared 1 (lit< tt) (lit< tt))) (sym (pcm-used own (offerOf heard .function)))
 
   pub jm-holds-what-both-have : HoldsWhatBothHave own heard
   jm-holds-what-both-have =
       let bits = crossed (has (jmOf own heard) 1) (offerOf heard .pcm) (pcmFor own (offerOf heard .function)) in
       record {
-        items = λ i low high.
-            item-shared i low high ∙ in-both (modes .items) (offerOf heard .items) i
-            ∙ ap₂ both (sym (has-used own (offerOf heard .function) i)) (sym (has-read heard i high));
+        items = λ i low high. item-shared i low high ∙ in-common own heard i high;
         b5 = ap analogue pcm-made ∙ bits .0;
         b6 = ap digital pcm-made ∙ bits .1;
         b7 = ap v91 pcm-made ∙ bits .2;
@@ -208,8 +241,18 @@ module _ (caller answerer : Record) (function : ℕ) (blocks : List ℕ) (call :
   asked-for : offerOf sent ≡ cm
   asked-for = says caller (call .calling) function blocks (call .available)
 
+  -- our own CM has three octets, and so has every JM for it
+  sent-count : length (groupOf sent modulation) ≡ 3
+  sent-count = ap length (other-group cm blocks modulation refl ∙ modulation-found houseCount cm) ∙ modulation-length (cm .items) houseCount
+
+  pub answered-house : answered ≡ menuOf houseCount (jmOffer answerer (offerOf sent))
+  unfolding when
+  answered-house =
+      ap (λ (count : ℕ). menuOf count (jmOffer answerer (offerOf sent)))
+      (either-way (λ (count : ℕ). count ≡ houseCount) (ltb 1 (jmOffer answerer (offerOf sent) .items)) houseCount (length (groupOf sent modulation)) (λ _. refl) (λ _. sent-count))
+
   answered-with : offerOf answered ≡ jmOffer answerer cm
-  answered-with = jm-back answerer (call .answering) sent ∙ ap (jmOffer answerer) asked-for
+  answered-with = ap offerOf answered-house ∙ read-back (jmOffer answerer (offerOf sent)) (sayable answerer sent (call .answering)) ∙ ap (jmOffer answerer) asked-for
 
   from-records : (i : ℕ) → 0 < i → i < 13 → has answered i ≡ both (hasFor caller function i) (hasFor answerer function i)
   from-records i low high =

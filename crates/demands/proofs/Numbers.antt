@@ -21,7 +21,6 @@ use Rattle.octets.specs.Lists.{octetFault, firstFault, opens, mostOctets, listF
 use Rattle.octets.proofs.Lists.{accepted-short, before-none}
 use Rattle.refusals.specs.Lent.{count, put}
 use Rattle.refusals.proofs.Outcomes.{counted}
-use Rattle.menus.specs.declared.Offer.{Offer}
 use Rattle.menus.specs.Groups.{Looked, place, opensGroup, firstGroup, looked, groupOf}
 use Rattle.menus.specs.Groups as looking
 use Rattle.menus.specs.Offer.{offerOf}
@@ -29,7 +28,7 @@ use Rattle.fields.specs.Field.{fieldTag, fieldOctets, fieldOf}
 use Rattle.fields.proofs.Field.{field-none}
 use Rattle.fields.proofs.Finding.{field-few}
 use Rattle.offers.specs.Offering.{cmOffer, jmOffer}
-use Rattle.offers.specs.Making.{menuOf, recordFault, functionFault, withField}
+use Rattle.offers.specs.Making.{houseCount, recordFault, functionFault, withField, modulationCount}
 use Rattle.offers.proofs.Making.{menu-length, menu-short, with-length, size-short}
 use Rattle.choices.specs.Choosing.{Chosen, none, item, pcm, refusal, choiceOf}
 use Rattle.framing.specs.Framing.{report}
@@ -50,6 +49,7 @@ use Rattle.codes.specs.Steps.{nothingCarried, stepCode}
 use Rattle.codes.specs.Hearing.{toldCode}
 use Rattle.codes.specs.Reading.{lookedCode}
 use Rattle.codes.proofs.Apart.{knownChoice, choice-code-injective, step-code-injective, knownReport, told-code-injective, knownPlace, looked-code-injective}
+use Rattle.demands.specs.Joint.{jmOf}
 use Rattle.demands.specs.WholeCall.{carried}
 use Rattle.demands.specs.Shared.{NotShared, cmUnread, jmUnread, itemMissing, nonePairs, Shared}
 use Rattle.stretches.specs.Hearing.{onceHeard}
@@ -188,12 +188,6 @@ looked-tells octets t =
     (λ fine. first-tells t 0 octets (omega (arith, accepted-short Reading octets (eqb-true (listFault Reading octets) 0 fine))))
     (λ refused. unread-tells (list-read octets) (eqb-false (listFault Reading octets) 0 refused))
 
--- a menu that is made has four octets, and up to three more
-menu-size : (f : ℕ) (offer : Offer) (out : List ℕ) (size : ℕ) → put f (menuOf offer) out .answer ≡ count size → between 4 7 size ≡ true
-menu-size f offer out size told =
-    let is : size ≡ length (menuOf offer) = counted f (menuOf offer) out size told .all in
-    in-range 4 7 size (omega (arith, is, menu-length offer)) (omega (arith, is, menu-short offer))
-
 -- what a bit reports
 record TellsReport (t : Told) : Type 0 where
   number : heardNumber (toldCode t) ≡ true
@@ -254,16 +248,21 @@ numbers-are-told-apart = record {
       let told-all = counted _ menu out size told in
       let faults = recordFault own ∷ functionFault own function ∷ [] in
       let short = size-short menu (behind-first faults _ _ (told-all .fine)) in
-      in-range 4 64 size (omega (arith, told-all .all, with-length (cmOffer own function) blocks, menu-length (cmOffer own function))) (omega (arith, told-all .all, short));
+      in-range 4 64 size (omega (arith, told-all .all, with-length (cmOffer own function) blocks, menu-length houseCount (cmOffer own function))) (omega (arith, told-all .all, short));
   cmAlone = λ own function out size told.
       let offer = cmOffer own function in
       let all = counted _ (withField offer []) out size told .all in
       let alone : length (fieldOf []) ≡ 0 = ap length (field-none [] refl) in
-      in-range 4 7 size (omega (arith, all, alone, with-length offer [], menu-length offer)) (omega (arith, all, alone, with-length offer [], menu-short offer));
+      in-range 4 7 size (omega (arith, all, alone, with-length offer [], menu-length houseCount offer)) (omega (arith, all, alone, with-length offer [], menu-short offer));
   fieldSize = λ heard out size told.
       let told-all = counted _ (fieldOctets (groupOf heard fieldTag)) out size told in
       in-range 0 38 size (omega arith) (omega (arith, told-all .all, field-few heard (before-none _ _ (told-all .fine) .0)));
-  jmSize = λ own heard out size told. menu-size _ (jmOffer own (offerOf heard)) out size told;
+  jmSize = λ own heard out size told.
+      let menu = jmOf own heard in
+      let jm = jmOffer own (offerOf heard) in
+      let told-all = counted _ menu out size told in
+      let short = size-short menu (behind-first (recordFault own ∷ listFault Reading heard ∷ []) _ _ (told-all .fine)) in
+      in-range 1 64 size (omega (arith, told-all .all, menu-length (modulationCount jm heard) jm)) (omega (arith, told-all .all, short));
   manyReportsApart = λ rec rec′ bits bits′ e. told-code-injective _ _ (many-tells rec bits .known) (many-tells rec′ bits′ .known) e;
 }
 

@@ -1,7 +1,7 @@
 -- Where menus arrive as sent both ends name the same choice, never one that was not offered, and none exactly where nothing is shared. The
 -- JM holds what both have, so each reason to refuse a choice fails; what a choice says of the menus is then said of the records.
 -- Assumes nothing.
-use Prim.Native.Nat.{ℕ, _<_, _*_, _/_, _%_, _^_}
+use Prim.Native.Nat.{ℕ, _<_, _≤_, _*_, _/_, _%_, _^_}
 use native.Mathlib.Omega.{arith}
 use mathlib.Core.Path.{_≡_, refl, sym, ap, ap₂, subst, _∙_}
 use mathlib.Core.Bool.{Bool, true, false}
@@ -9,6 +9,7 @@ use mathlib.Core.List.{List}
 use mathlib.Core.Logic.{⊎-elim}
 use borrow.Author.Tests.{eqb-true, eqb-false, eq-eqb}
 use lib.Dec.{T, ltb, eqb, ltb→lt, eqb→eq, lit<}
+use lib.ListN.{length}
 use Rattle.laws.specs.Logic.{when, both}
 use Rattle.laws.specs.Tests.{allBelow}
 use Rattle.laws.proofs.Logic.{either-way, both-true, clash}
@@ -23,8 +24,9 @@ use Rattle.records.specs.declared.Record.{Record}
 use Rattle.records.specs.Record.{flag, inUse}
 use Rattle.records.proofs.Good.{good-modes, none-used}
 use Rattle.offers.specs.Offering.{bit, withItem1, cmOffer, jmOffer}
+use Rattle.offers.specs.Making.{modulationCount}
 use Rattle.offers.proofs.Making.{size-fits}
-use Rattle.offers.proofs.Meaning.{menu-readable}
+use Rattle.offers.proofs.Meaning.{menu-readable, house-fits}
 use Rattle.offers.proofs.Fields.{with-readable}
 use Rattle.menus.specs.Pcm.{v91, paired}
 use Rattle.menus.proofs.Pcm.{paired-small}
@@ -33,7 +35,7 @@ use Rattle.demands.specs.Joint.{AcceptedRecord, cmOf, jmOf, has, hasFor,
 use Rattle.demands.specs.OneChoice.{Call, NothingShared, callerNames, answererNames, BothNameOneChoice, NothingInBoth, AnswersAnyCm}
 use Rattle.demands.specs.Shared.{NothingOffered, SharedPcm, NotShared, cmUnread, jmUnread, itemMissing, nonePairs, Shared}
 use Rattle.demands.proofs.Shared.{crosswise, by-bits, choice-is-shared}
-use Rattle.demands.proofs.Joint.{jm-back, pcm-made, has-used, pcm-used, available-used, pcm-from-records, jm-holds-what-both-have, jm-holds-what-both-records-have}
+use Rattle.demands.proofs.Joint.{jm-back, answered-house, pcm-made, has-used, pcm-used, available-used, pcm-from-records, jm-holds-what-both-have, jm-holds-what-both-records-have}
 
 -- options that pair still pair in the answer, and b5 or b6 among them come from both ends
 abbrev pairs : ℕ → ℕ → Bool → Bool
@@ -87,7 +89,7 @@ pcm-small : (own : Record) → AcceptedRecord own → (function : ℕ) → pcmFo
 pcm-small own good function = subst (λ (n : ℕ). n < 8) (sym (pcm-used own function)) (good-modes own (good .good) function .pcm)
 
 -- whatever CM is heard, as far as it can be read
-module _ (own : Record) (good : AcceptedRecord own) (heard : List ℕ) (readable : listFault Reading heard ≡ 0) where
+module _ (own : Record) (good : AcceptedRecord own) (heard : List ℕ) (readable : listFault Reading heard ≡ 0) (fits : length (jmOf own heard) ≤ 64) where
   abbrev function : ℕ
   function = offerOf heard .function
 
@@ -104,7 +106,7 @@ module _ (own : Record) (good : AcceptedRecord own) (heard : List ℕ) (readable
 
   -- where the function is available JM has the same
   same-function : (flag (inUse own function .available) ≡ false → ⊥) → offerOf heard .function ≡ offerOf jm .function
-  same-function some = same-by (flag (inUse own function .available)) refl some ∙ sym (ap (λ (o : Offer). o .function) (jm-back own good heard))
+  same-function some = same-by (flag (inUse own function .available)) refl some ∙ sym (ap (λ (o : Offer). o .function) (jm-back own heard good))
 
   -- an item of JM is in both, and its function is available
   item-in-both : (i : ℕ) → 0 < i → i < 13 → has jm i ≡ true → (hasFor own function i ≡ true) × (has heard i ≡ true)
@@ -125,10 +127,13 @@ module _ (own : Record) (good : AcceptedRecord own) (heard : List ℕ) (readable
       subst (λ (n : ℕ). paired (offerOf heard .pcm) n ≡ n) (sym (pcm-made own good heard))
       (pairs-again (offerOf heard .pcm) (pcmFor own function) (options-small heard) (pcm-small own good function) (has jm 1))
 
+  jm-read : listFault Reading jm ≡ 0
+  jm-read = menu-readable (modulationCount (jmOffer own (offerOf heard)) heard) (jmOffer own (offerOf heard)) fits
+
   -- so the choice is not refused
   not-refused : (n : ℕ) → NotShared heard jm n → ⊥
   not-refused n (cmUnread bad) = bad readable
-  not-refused n (jmUnread _ bad) = bad (menu-readable (jmOffer own (offerOf heard)))
+  not-refused n (jmUnread _ bad) = bad jm-read
   not-refused n (itemMissing i _ here why) =
       let shared = item-in-both i (here .low) (here .high) (here .answered) in
       ⊎-elim (λ differ. differ (same-function (item-available i (shared .0)))) (λ missing. clash (sym (shared .1) ∙ missing)) why
@@ -160,7 +165,7 @@ module _ (own : Record) (good : AcceptedRecord own) (heard : List ℕ) (readable
     cleared = λ nothing.
         choice-is-shared heard jm .alone none
         (record {
-          readable = record { asked = readable; answered = menu-readable (jmOffer own (offerOf heard)) };
+          readable = record { asked = readable; answered = jm-read };
           uncounted = no-pcm-left nothing;
           items = λ i low high. holds .items i low high ∙ nothing .items i low high;
         });
@@ -185,6 +190,10 @@ module _ (caller answerer : Record) (function : ℕ) (blocks : List ℕ) (call :
 
   sent-readable : listFault Reading sent ≡ 0
   sent-readable = with-readable (cmOffer caller function) blocks (size-fits sent (call .fits))
+
+  -- as JM has three octets it is short
+  pub answered-fits : length (jmOf answerer (cmOf caller function blocks)) ≤ 64
+  answered-fits = rw (answered-house caller answerer function blocks call) (house-fits (jmOffer answerer (offerOf sent)))
 
   -- b5 and b6 that pair need no test of item 1: both ends have it
   item-1 : (own : Record) → AcceptedRecord own → 0 < pcmFor own function % 4 → hasFor own function 1 ≡ true
@@ -212,11 +221,11 @@ module _ (caller answerer : Record) (function : ℕ) (blocks : List ℕ) (call :
   pcm-named options s =
       let bits = crosswise (offerOf sent .pcm) (offerOf answered .pcm) in
       by-bits options (paired (offerOf sent .pcm) (offerOf answered .pcm)) (s .high) (paired-small (offerOf sent .pcm) (offerOf answered .pcm)) (s .b5 ∙ sym (bits .0)) (s .b6 ∙ sym (bits .1)) (s .b7 ∙ sym (bits .2))
-      ∙ jm-pairs answerer (call .answering) sent sent-readable ∙ pcm-exact
+      ∙ jm-pairs answerer (call .answering) sent sent-readable answered-fits ∙ pcm-exact
 
   nothing-offered : NothingShared caller answerer function → NothingOffered sent answered
   nothing-offered nothing = record {
-    readable = record { asked = sent-readable; answered = menu-readable (jmOffer answerer (offerOf sent)) };
+    readable = record { asked = sent-readable; answered = jm-read answerer (call .answering) sent sent-readable answered-fits };
     uncounted = pcm-exact ∙ nothing .pcm;
     items = λ i low high. from-both .items i low high ∙ nothing .items i low high;
   }
@@ -227,7 +236,7 @@ module _ (caller answerer : Record) (function : ℕ) (blocks : List ℕ) (call :
       let says : (c : Chosen) → callerNames caller function blocks heardJm ≡ c → Shared sent answered c = λ c e. subst (Shared sent answered) (sym named ∙ e) (choice-is-shared sent answered .shared) in
       record {
         same = ap₂ choiceOf (sym asSent) asAnswered;
-        offered = λ n e. not-refused answerer (call .answering) sent sent-readable n (says (refusal n) e);
+        offered = λ n e. not-refused answerer (call .answering) sent sent-readable answered-fits n (says (refusal n) e);
         clears = λ e.
             let offered = says none e in
             record { items = λ i low high. sym (from-both .items i low high) ∙ offered .items i low high; pcm = sym pcm-exact ∙ offered .uncounted };

@@ -24,6 +24,7 @@ use Rattle.refusals.specs.Refusals.{before}
 use Rattle.refusals.specs.Lent.{count, roomFault, put}
 use Rattle.refusals.proofs.Outcomes.{counted}
 use Rattle.stretches.proofs.Copies.{copies-read}
+use Rattle.items.specs.Items.{modulation}
 use Rattle.menus.specs.declared.Offer.{Offer}
 use Rattle.menus.specs.Groups.{place, nowhere, opensGroup, looked, frontPart, partAt, groupOf}
 use Rattle.menus.specs.Offer.{offerOf}
@@ -36,10 +37,10 @@ use Rattle.fields.proofs.Field.{field-none, field-some, field-length, packed-we
 use Rattle.fields.proofs.Finding.{place-tells, nowhere-tells, nowhere-found}
 use Rattle.records.specs.declared.Record.{Record}
 use Rattle.offers.specs.Offering.{cmOffer, jmOffer}
-use Rattle.offers.specs.Making.{menuOf, recordFault, functionFault, sizeFault, madeCm}
+use Rattle.offers.specs.Making.{houseCount, menuOf, recordFault, functionFault, sizeFault, madeCm, modulationCount}
 use Rattle.offers.proofs.Making.{menu-short, size-fits, with-length}
 use Rattle.offers.proofs.Meaning.{menu-readable}
-use Rattle.offers.proofs.Fields.{no-field, own-field, offer-kept, with-readable, with-writable}
+use Rattle.offers.proofs.Fields.{no-field, own-field, other-group, offer-kept, with-readable, with-writable}
 use Rattle.steps.proofs.Known.{is-so}
 use Rattle.demands.specs.RefusalOrder.{firstOf, badFault, unavailable, tooShort}
 use Rattle.demands.specs.Joint.{cmOf, jmOf}
@@ -217,21 +218,21 @@ nothing-reads heard out e =
 
 -- the CM without blocks
 module _ (own : Record) (function : ℕ) where
-  alone : cmOf own function [] ≡ menuOf (cmOffer own function)
-  alone = ap (λ (l : List ℕ). menuOf (cmOffer own function) ++ l) (field-none [] refl) ∙ append-nil (menuOf (cmOffer own function))
+  alone : cmOf own function [] ≡ menuOf houseCount (cmOffer own function)
+  alone = ap (λ (l : List ℕ). menuOf houseCount (cmOffer own function) ++ l) (field-none [] refl) ∙ append-nil (menuOf houseCount (cmOffer own function))
 
   module _ (blocks : List ℕ) (some : 0 < length blocks) where
     field-last : cmOf own function blocks ≡ cmOf own function [] ++ 0x0F ∷ packed blocks
-    field-last = ap (λ (l : List ℕ). menuOf (cmOffer own function) ++ l) (field-some blocks (λ z. let w : ⊥ = omega (arith, some, z) in w)) ∙ ap (λ (l : List ℕ). l ++ 0x0F ∷ packed blocks) (sym alone)
+    field-last = ap (λ (l : List ℕ). menuOf houseCount (cmOffer own function) ++ l) (field-some blocks (λ z. let w : ⊥ = omega (arith, some, z) in w)) ∙ ap (λ (l : List ℕ). l ++ 0x0F ∷ packed blocks) (sym alone)
 
     field-size : length (cmOf own function blocks) ≡ length (cmOf own function []) + 1 + (8 * length blocks + 4) / 5
     field-size = omega (arith, with-length (cmOffer own function) blocks, ap length alone, field-length blocks (λ z. let w : ⊥ = omega (arith, some, z) in w))
 
-  as-before : (out : List ℕ) → let menu = menuOf (cmOffer own function) in
+  as-before : (out : List ℕ) → let menu = menuOf houseCount (cmOffer own function) in
       madeCm own function [] out ≡ put (firstOf (badFault own ∷ unavailable own function ∷ tooShort menu out ∷ [])) menu out
   unfolding when blocksBehind every
   as-before out =
-      let menu = menuOf (cmOffer own function) in
+      let menu = menuOf houseCount (cmOffer own function) in
       rw alone
       (simp (size-fits menu (omega (arith, menu-short (cmOffer own function))))
       (ap (λ (f : ℕ). put f menu out) (first-behind (recordFault own ∷ functionFault own function ∷ []) (roomFault menu out))))
@@ -244,6 +245,7 @@ module _ (own : Record) (function : ℕ) where
       (with-readable offer [] (size-fits (cmOf own function []) alone-short))
       (with-readable offer blocks (size-fits (cmOf own function blocks) short))
       (offer-kept offer blocks ∙ sym (offer-kept offer []))
+      (ap length (other-group offer blocks modulation refl ∙ sym (other-group offer [] modulation refl)))
 
 pub own-fields-are-kept : OwnFieldsAreKept
 own-fields-are-kept = record {
@@ -253,7 +255,10 @@ own-fields-are-kept = record {
   nothing = nothing-reads;
   last = field-last;
   size = field-size;
-  jm = λ own heard. nowhere-found (jmOf own heard) (menu-readable (jmOffer own (offerOf heard))) (no-field (jmOffer own (offerOf heard)) []);
+  jm = λ own heard fits.
+      let jm = jmOffer own (offerOf heard) in
+      let count = modulationCount jm heard in
+      nowhere-found (jmOf own heard) (menu-readable count jm fits) (no-field count jm);
   none = as-before;
   changes = changes-none;
 }

@@ -185,7 +185,7 @@ refusals-come-in-order = record {
       let group = groupOf heard fieldTag in
       put-behind (listFault Reading heard ∷ packingFault group ∷ blocksFault (fieldOctets group) ∷ []) (roomFault (fieldOctets group) out) (fieldOctets group) out;
   cm = λ own function blocks out. put-behind (recordFault own ∷ functionFault own function ∷ sizeFault (cmOf own function blocks) ∷ blocksFault blocks ∷ []) (roomFault (cmOf own function blocks) out) (cmOf own function blocks) out;
-  jm = λ own heard out. put-behind (recordFault own ∷ listFault Reading heard ∷ []) (roomFault (jmOf own heard) out) (jmOf own heard) out;
+  jm = λ own heard out. put-behind (recordFault own ∷ listFault Reading heard ∷ sizeFault (jmOf own heard) ∷ []) (roomFault (jmOf own heard) out) (jmOf own heard) out;
   choice = choice-order;
   eleven = choice-eleven;
   step = step-order;

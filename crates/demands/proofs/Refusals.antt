@@ -107,7 +107,7 @@ buffers-kept = record {
   writingAs = as-asked;
   writingCj = λ out. put-keeps (roomFault cjBits out) cjBits out (room-tested cjBits out);
   makingCm = λ own function blocks out. keeps-behind (recordFault own ∷ functionFault own function ∷ sizeFault (cmOf own function blocks) ∷ blocksFault blocks ∷ []) (cmOf own function blocks) out;
-  makingJm = λ own heardCm out. keeps-behind (recordFault own ∷ listFault Reading heardCm ∷ []) (jmOf own heardCm) out;
+  makingJm = λ own heardCm out. keeps-behind (recordFault own ∷ listFault Reading heardCm ∷ sizeFault (jmOf own heardCm) ∷ []) (jmOf own heardCm) out;
   readingField = λ heardCm out.
       let group = groupOf heardCm fieldTag in
       keeps-behind (listFault Reading heardCm ∷ packingFault group ∷ blocksFault (fieldOctets group) ∷ []) (fieldOctets group) out;

@@ -1,26 +1,28 @@
 -- What V.8 does not define, put into a menu at a group's end, changes nothing that the reader says: the first group of each tag of the table
--- stays the same, or gets longer past what anyone looks at. What is made and chosen goes by what is read.
+-- stays the same, or gets longer past what anyone looks at but who counts. What is chosen goes by what is read, and a JM by that and the count.
 -- Assumes nothing.
-use Prim.Native.Nat.{ℕ, _<_, _≤_}
+use Prim.Native.Nat.{ℕ, _+_, _<_, _≤_}
+use native.Mathlib.Nat.{not-suc-le-zero}
 use native.Mathlib.Omega.{arith}
 use mathlib.Core.Path.{_≡_, refl, sym, ap, ap₂, subst, _∙_}
 use mathlib.Core.Bool.{Bool, true, false, not}
 use mathlib.Core.List.{List, [], _∷_, _++_, append-assoc}
 use borrow.Author.Tests.{not-true, lt-ltb, eqb-true}
-use lib.Dec.{eqb}
-use lib.ListN.{length, getD, List·getD-append}
+use lib.Dec.{ltb, eqb}
+use lib.ListN.{length, take, drop, getD, replicate, length-append, List·getD-append}
 use Rattle.laws.specs.Logic.{when, both}
+use Rattle.laws.specs.Joined.{joined}
 use Rattle.laws.specs.Tests.{every}
 use Rattle.laws.proofs.Computed.{every-joined}
 use Rattle.laws.proofs.Logic.{both-true, both-neither}
 use Rattle.octets.specs.declared.Purpose.the-variants.{Reading}
-use Rattle.octets.specs.Octets.{category, tag, options, extension}
+use Rattle.octets.specs.Octets.{category, tag, options, extension, callFunctionTag, categoryOctet}
 use Rattle.refusals.specs.Refusals.{before}
 use Rattle.octets.specs.Lists.{firstFault, listFault, groupEnds}
 use Rattle.octets.proofs.Lists.{accepted-opens, accepted-rest, faultless, faultless-parts, group-starts}
 use Rattle.octets.proofs.Fine.{extensions-fine, group-fine, accepted-by}
 use Rattle.menus.specs.declared.Offer.{Offer}
-use Rattle.items.specs.Items.{placeOf, bitOf, hasItem, itemsOf}
+use Rattle.items.specs.Items.{placeOf, bitOf, hasItem, itemsOf, noItems}
 use Rattle.menus.specs.Groups.{opensGroup, groupOf, optionsIn}
 use Rattle.menus.specs.Offer.{Read, pcmTag, protocol, access, stands, offerOf, menuRead, offers}
 use Rattle.items.specs.Items.{modulation}
@@ -31,10 +33,13 @@ use Rattle.items.proofs.Places.{place-octet}
 use Rattle.records.specs.declared.Record.{Record}
 use Rattle.refusals.specs.Lent.{WriteOutcome, roomFault, put}
 use Rattle.offers.specs.Offering.{jmOffer}
-use Rattle.offers.specs.Making.{menuOf, recordFault}
+use Rattle.offers.specs.Making.{modulationGroup, houseCount, groupsOf, menuOf, recordFault, sizeFault, modulationCount, madeJm}
+use Rattle.offers.proofs.Making.{modulation-longer}
 use Rattle.choices.specs.Choosing.{onRead, choiceFor, chosenFrom}
-use Rattle.offers.proofs.Meaning.{same-offer}
-use Rattle.demands.specs.Undefined.{unknownTag, IsGroup, Undefined, group, surplus, Extended, ChangesNothing}
+use Rattle.offers.proofs.Meaning.{same-offer, modulation-found}
+use Rattle.demands.specs.Joint.{jmOf, has, hasFor, NoModeInCommon}
+use Rattle.demands.specs.Undefined.{unknownTag, IsGroup, UnknownGroup, Surplus, ChangesNoReading, ChangesNothing, LongerBy, ChangesOnlyTheCount}
+use Rattle.demands.proofs.HeardCount.{mode-there, no-mode, heard-count}
 
 -- what a reader takes of the first group of a tag, where one group stands between others
 module _ {A : Type 0} (say : List ℕ → A) (sought : ℕ) (front rest : List ℕ) (ends : groupEnds rest 0 ≡ true) where
@@ -73,20 +78,71 @@ module _ (a b : List ℕ) where
   offer-same function items pcm lapm options standing =
       same-offer _ _ _ _ _ _ _ _ _ _ _ _ function items (ap₂ (λ (t : Bool) (n : ℕ). when t n 0) standing pcm) (ap (λ (n : ℕ). eqb n 1) lapm) standing options
 
--- the JM by what the heard menu's octets give
-abbrev jmBy : Record → List ℕ → ℕ → Offer → WriteOutcome
-jmBy own out fault offer = put (before (recordFault own) (before fault (roomFault (menuOf (jmOffer own offer)) out))) (menuOf (jmOffer own offer)) out
-
 -- reading the same goes on to the same
-pub changes-nothing-by : (menu longer : List ℕ) → listFault Reading menu ≡ 0 → listFault Reading longer ≡ 0 → offerOf longer ≡ offerOf menu → ChangesNothing menu longer
-changes-nothing-by menu longer read longer-read same =
-    let reads : menuRead longer ≡ menuRead menu = menu-read longer longer-read ∙ ap offers same ∙ sym (menu-read menu read) in
-    record {
-      read = reads;
-      jm = λ own out. ap₂ (jmBy own out) (longer-read ∙ sym read) same;
-      asked = λ jm. ap (λ (r : Read). onRead r (λ offer. choiceFor jm offer)) reads;
-      answered = λ cm. ap (λ (r : Read). onRead (menuRead cm) (λ offer. onRead r (λ answer. chosenFrom offer answer))) reads;
-    }
+module _ (menu longer : List ℕ) (read : listFault Reading menu ≡ 0) (longer-read : listFault Reading longer ≡ 0) (same : offerOf longer ≡ offerOf menu) where
+  reads : menuRead longer ≡ menuRead menu
+  reads = menu-read longer longer-read ∙ ap offers same ∙ sym (menu-read menu read)
+
+  changes-no-reading : ChangesNoReading menu longer
+  changes-no-reading = record {
+    read = reads;
+    asked = λ jm. ap (λ (r : Read). onRead r (λ offer. choiceFor jm offer)) reads;
+    answered = λ cm. ap (λ (r : Read). onRead (menuRead cm) (λ offer. onRead r (λ answer. chosenFrom offer answer))) reads;
+  }
+
+  -- and the same JM, where its count is the same
+  abbrev jmBy : Record → List ℕ → ℕ → Offer → ℕ → WriteOutcome
+  jmBy own out fault offer count =
+      let jm = menuOf count (jmOffer own offer) in
+      put (before (recordFault own) (before fault (before (sizeFault jm) (roomFault jm out)))) jm out
+
+  jm-same : (own : Record) (out : List ℕ) → modulationCount (jmOffer own (offerOf longer)) longer ≡ modulationCount (jmOffer own (offerOf menu)) menu → madeJm own longer out ≡ madeJm own menu out
+  jm-same own out count =
+      ap₂ (λ (fault : ℕ) (offer : Offer). jmBy own out fault offer (modulationCount (jmOffer own (offerOf longer)) longer)) (longer-read ∙ sym read) same
+      ∙ ap (jmBy own out (listFault Reading menu) (offerOf menu)) count
+
+  as-many : (own : Record) → length (groupOf longer modulation) ≡ length (groupOf menu modulation) → modulationCount (jmOffer own (offerOf longer)) longer ≡ modulationCount (jmOffer own (offerOf menu)) menu
+  as-many own = ap₂ (λ (offer : Offer) (n : ℕ). when (ltb 1 (jmOffer own offer .items)) houseCount n) same
+
+  pub changes-nothing-by : length (groupOf longer modulation) ≡ length (groupOf menu modulation) → ChangesNothing menu longer
+  changes-nothing-by heard = record { reading = changes-no-reading; jm = λ own out. jm-same own out (as-many own heard) }
+
+  -- with a mode in common no count is heard
+  common-count : (own : Record) (i : ℕ) → 0 < i → i < 13 → both (hasFor own (offerOf menu .function) i) (has menu i) ≡ true → modulationCount (jmOffer own (offerOf longer)) longer ≡ modulationCount (jmOffer own (offerOf menu)) menu
+  unfolding when
+  common-count own i low high shared =
+      let there : ltb 1 (jmOffer own (offerOf menu) .items) ≡ true = mode-there own menu i low high shared in
+      ap (λ (offer : Offer). when (ltb 1 (jmOffer own offer .items)) houseCount (length (groupOf longer modulation))) same ∙ simp there
+
+  -- without one JM gets longer by as many as were heard
+  module _ (own : Record) (none : NoModeInCommon own menu) (more : ℕ) (heard : length (groupOf longer modulation) ≡ length (groupOf menu modulation) + more) (past : 0 < more → 2 < length (groupOf menu modulation)) where
+    abbrev offer : Offer
+    offer = jmOffer own (offerOf menu)
+
+    longer-jm : jmOf own longer ≡ menuOf (length (groupOf menu modulation) + more) offer
+    unfolding when
+    longer-jm =
+        ap (λ (o : Offer). menuOf (when (ltb 1 (jmOffer own o .items)) houseCount (length (groupOf longer modulation))) (jmOffer own o)) same
+        ∙ ap (λ (t : Bool). menuOf (when t houseCount (length (groupOf longer modulation))) offer) (no-mode own menu none)
+        ∙ ap (λ (count : ℕ). menuOf count offer) heard
+
+    jm-longer : LongerBy more (jmOf own menu) (jmOf own longer)
+    unfolding joined
+    jm-longer =
+        let count = length (groupOf menu modulation) in
+        let behind = joined (drop 2 (groupsOf houseCount offer)) in
+        let call = categoryOctet callFunctionTag (offer .function) in
+        let group = modulationGroup count (offer .items) in
+        let is : jmOf own menu ≡ call ∷ (group ++ behind) = ap (λ (n : ℕ). menuOf n offer) (heard-count own menu none) in
+        let front : take 1 (jmOf own menu) ++ groupOf (jmOf own menu) modulation ≡ call ∷ group =
+        ap₂ (λ (a b : List ℕ). a ++ b) (ap (take 1) is) (modulation-found (modulationCount offer menu) offer ∙ ap (λ (n : ℕ). modulationGroup n (offer .items)) (heard-count own menu none)) in
+        record {
+          behind = behind;
+          was = is ∙ ap (λ (l : List ℕ). l ++ behind) (sym front);
+          becomes =
+              longer-jm ∙ ap (λ (l : List ℕ). call ∷ (l ++ behind)) (modulation-longer (offer .items) count more past)
+              ∙ ap (λ (l : List ℕ). call ∷ l) (append-assoc group (replicate more noItems) behind) ∙ ap (λ (l : List ℕ). l ++ (replicate more noItems ++ behind)) (sym front);
+        }
 
 -- what is put in is no fault
 module _ (c : ℕ) (a x b : List ℕ) (read : listFault Reading (c ∷ (a ++ b)) ≡ 0) (fine : firstFault Reading x ≡ 0) (short : length (c ∷ (a ++ (x ++ b))) ≤ 64) where
@@ -128,6 +184,15 @@ module _ (front rest : List ℕ) (octet : ℕ) (extensions : List ℕ) (ends : g
       (ap itemsOf (group-kept modulation (not-5 .0))) (ap optionsIn (group-kept pcmTag (not-7 .0))) (ap optionsIn (group-kept protocol (not-10 .0)))
       (ap optionsIn access-kept) (ap stands access-kept)
 
+-- a group that grew, if so behind its third octet
+record Grown (short long : List ℕ) : Type 0 where
+  more : ℕ
+  counted : length long ≡ length short + more
+  past : 0 < more → 2 < length short
+
+not-grown : (group : List ℕ) → Grown group group
+not-grown group = record { more = 0; counted = omega arith; past = λ some. absurd (not-suc-le-zero some) }
+
 -- extension octets past those defined
 module _ (front rest : List ℕ) (octet : ℕ) (extensions more : List ℕ) (ends : groupEnds rest 0 ≡ true) (is-group : IsGroup octet extensions) (extends : every extension more ≡ true) (past : tag octet ≡ modulation → 2 ≤ length extensions) where
   longer : IsGroup octet (extensions ++ more)
@@ -157,21 +222,49 @@ module _ (front rest : List ℕ) (octet : ℕ) (extensions more : List ℕ) (end
       let whole : c ∷ ((l ++ (octet ∷ extensions)) ++ rest) ≡ c ∷ (l ++ ((octet ∷ extensions) ++ rest)) = ap (λ (t : List ℕ). c ∷ t) (append-assoc l (octet ∷ extensions) rest) in
       ap (listFault Reading) apart ∙ still-read c (l ++ (octet ∷ extensions)) more rest (ap (listFault Reading) whole ∙ read) (extensions-fine Reading more extends) (subst (λ (t : List ℕ). length t ≤ 64) apart short)
 
+  -- the first modulation group is the same, or longer behind its third octet
+  surplus-grown : Grown (groupOf (front ++ ((octet ∷ extensions) ++ rest)) modulation) (groupOf (front ++ ((octet ∷ (extensions ++ more)) ++ rest)) modulation)
+  unfolding when
+  surplus-grown =
+      let short = group-from (front ++ ((octet ∷ extensions) ++ rest)) modulation ∙ between (λ (l : List ℕ). l) modulation front rest ends octet extensions is-group in
+      let long = group-from (front ++ ((octet ∷ (extensions ++ more)) ++ rest)) modulation ∙ between (λ (l : List ℕ). l) modulation front rest ends octet (extensions ++ more) longer in
+      rw (short, long) (go (groupFrom modulation front) (opensGroup modulation octet) refl)
+    where
+      go : (first : List ℕ) (test : Bool) → opensGroup modulation octet ≡ test
+          → Grown (orElse first (orElse (when test (octet ∷ extensions) []) (groupFrom modulation rest))) (orElse first (orElse (when test (octet ∷ (extensions ++ more)) []) (groupFrom modulation rest)))
+      go [] true opened =
+          let two = past (eqb-true _ _ (both-true _ _ opened .1)) in
+          record { more = length more; counted = omega (arith, length-append extensions more); past = λ _. omega (arith, two) }
+      go [] false opened = not-grown (groupFrom modulation rest)
+      go (b ∷ first) test opened = not-grown (b ∷ first)
+
 -- by what was put in
 unknown-read : (front rest x : List ℕ) → 0 < length front → listFault Reading (front ++ rest) ≡ 0 → firstFault Reading x ≡ 0 → length (front ++ (x ++ rest)) ≤ 64 → listFault Reading (front ++ (x ++ rest)) ≡ 0
 unknown-read [] rest x some read fine short = absurd (omega (arith, some))
 unknown-read (c ∷ a) rest x some read fine short = still-read c a x rest read fine short
 
 module _ (menu longer : List ℕ) (read : listFault Reading menu ≡ 0) (short : length longer ≤ 64) where
-  changes-nothing : Undefined menu longer → ChangesNothing menu longer
-  changes-nothing (group front rest octet extensions some ends is-group unknown before-is longer-is) =
+  pub unknown-groups-change-nothing : UnknownGroup menu longer → ChangesNothing menu longer
+  unfolding every
+  unknown-groups-change-nothing g =
+      let inside = (g .octet ∷ g .extensions) ++ g .rest in
+      let not-5 = both-true _ _ (both-true _ _ (g .unknown) .1) .0 in
       changes-nothing-by menu longer read
-      (ap (listFault Reading) longer-is ∙ unknown-read front rest (octet ∷ extensions) some (ap (listFault Reading) (sym before-is) ∙ read) (group-fine Reading octet extensions (is-group .opens) (is-group .extends)) (subst (λ (t : List ℕ). length t ≤ 64) longer-is short))
-      (ap offerOf longer-is ∙ unknown-offer front rest octet extensions ends is-group unknown some ∙ ap offerOf (sym before-is))
-  changes-nothing (surplus front rest octet extensions more ends is-group extends past before-is longer-is) =
-      changes-nothing-by menu longer read
-      (ap (listFault Reading) longer-is ∙ surplus-read front rest octet extensions more ends is-group extends past front (ap (listFault Reading) (sym before-is) ∙ read) (subst (λ (t : List ℕ). length t ≤ 64) longer-is short))
-      (ap offerOf longer-is ∙ surplus-offer front rest octet extensions more ends is-group extends past ∙ ap offerOf (sym before-is))
+      (ap (listFault Reading) (g .becomes) ∙ unknown-read (g .front) (g .rest) (g .octet ∷ g .extensions) (g .behind) (ap (listFault Reading) (sym (g .was)) ∙ read) (group-fine Reading (g .octet) (g .extensions) (g .is .opens) (g .is .extends)) (subst (λ (t : List ℕ). length t ≤ 64) (g .becomes) short))
+      (ap offerOf (g .becomes) ∙ unknown-offer (g .front) (g .rest) (g .octet) (g .extensions) (g .ends) (g .is) (g .unknown) (g .behind) ∙ ap offerOf (sym (g .was)))
+      (ap (λ (m : List ℕ). length (groupOf m modulation)) (g .becomes) ∙ ap length (group-kept (g .front) (g .rest) (g .octet) (g .extensions) (g .ends) (g .is) (g .unknown) modulation not-5) ∙ ap (λ (m : List ℕ). length (groupOf m modulation)) (sym (g .was)))
 
-pub undefined-octets-change-nothing : (menu longer : List ℕ) → Extended menu longer → ChangesNothing menu longer
-undefined-octets-change-nothing menu longer extended = changes-nothing menu longer (extended .readable) (extended .short) (extended .undefined)
+  pub surplus-octets-change-only-the-count : Surplus menu longer → ChangesOnlyTheCount menu longer
+  surplus-octets-change-only-the-count s =
+      let longer-read = ap (listFault Reading) (s .becomes) ∙ surplus-read (s .front) (s .rest) (s .octet) (s .extensions) (s .more) (s .ends) (s .is) (s .extend) (s .past) (s .front) (ap (listFault Reading) (sym (s .was)) ∙ read) (subst (λ (t : List ℕ). length t ≤ 64) (s .becomes) short) in
+      let same = ap offerOf (s .becomes) ∙ surplus-offer (s .front) (s .rest) (s .octet) (s .extensions) (s .more) (s .ends) (s .is) (s .extend) (s .past) ∙ ap offerOf (sym (s .was)) in
+      let grown : Grown (groupOf menu modulation) (groupOf longer modulation) =
+      rw (s .was, s .becomes) (surplus-grown (s .front) (s .rest) (s .octet) (s .extensions) (s .more) (s .ends) (s .is) (s .extend) (s .past)) in
+      record {
+        reading = changes-no-reading menu longer read longer-read same;
+        more = grown .more;
+        counted = grown .counted;
+        same = λ own out none. jm-same menu longer read longer-read same own out (as-many menu longer read longer-read same own (omega (arith, grown .counted, none)));
+        common = λ own out i low high shared. jm-same menu longer read longer-read same own out (common-count menu longer read longer-read same own i low high shared);
+        alone = λ own none. jm-longer menu longer read longer-read same own none (grown .more) (grown .counted) (grown .past);
+      }

@@ -31,7 +31,7 @@ use Rattle.demands.specs.Joint.{cmOf, jmOf}
 use Rattle.demands.specs.OneChoice.{Call, NothingShared, callerNames, answererNames, BothNameOneChoice}
 use Rattle.demands.specs.TableLines.{InTime}
 use Rattle.demands.proofs.TableLines.{caller-goes-by-the-table, answerer-goes-by-the-table, pause-goes-by-the-table}
-use Rattle.demands.proofs.OneChoice.{kindOf, choice-case, both-ends-name-one-choice}
+use Rattle.demands.proofs.OneChoice.{kindOf, choice-case, both-ends-name-one-choice, answered-fits}
 use Rattle.demands.specs.WholeCall.{carried, Due, inTime, InOrder, waiting, comes, lastTick, callerOrder, EndsJoint, byCj, bySigC, answererOrder, EndsWith, BothEndWith}
 
 -- an event that is answered "same" leaves the session as it is
@@ -284,7 +284,7 @@ module _ (calls answers : Record) (function : ℕ) (blocks : List ℕ) (call : C
   named-fits : fits named ≡ true
   named-fits =
       subst (λ (jm : List ℕ). fits (choiceOf (cmOf calls function blocks) jm) ≡ true) (sym (asAnswered ∙ ap (jmOf answers) asSent))
-      (choice-case answers (call .answering) (cmOf calls function blocks) (with-readable (cmOffer calls function) blocks (size-fits (cmOf calls function blocks) (call .fits))) (λ (c : Chosen). fits c ≡ true) none-fits item-fits pcm-fits)
+      (choice-case answers (call .answering) (cmOf calls function blocks) (with-readable (cmOffer calls function) blocks (size-fits (cmOf calls function blocks) (call .fits))) (answered-fits calls answers function blocks call) (λ (c : Chosen). fits c ≡ true) none-fits item-fits pcm-fits)
 
   -- none is carried exactly where nothing is shared, and otherwise a mode
   pub nothing-carried : carried (callerNames calls function blocks heardJm) ≡ 0 → NothingShared calls answers function

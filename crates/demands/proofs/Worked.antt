@@ -13,7 +13,7 @@ use Rattle.fields.specs.Blocks.{blocksBehind}
 use Rattle.fields.specs.Field.{fieldOf}
 use Rattle.records.specs.Record.{modesAt, anyBad, badRecord}
 use Rattle.menus.specs.Pcm.{paired}
-use Rattle.offers.specs.Making.{modulationGroup}
+use Rattle.offers.specs.Making.{modulationFrom}
 use Rattle.laws.specs.Joined.{joined}
 use Rattle.choices.specs.Choosing.{lowestFrom, pcmChoice, itemChoice, chosenFrom}
 use Rattle.steps.specs.Table.{rows}
@@ -22,5 +22,5 @@ use Rattle.steps.specs.Stepping.{elapsed, applies, findRow, timed, steppedIn}
 use Rattle.demands.specs.Worked.{AllHold, done, _and_, worked}
 
 pub worked-values-hold : AllHold worked
-unfolding when both either firstFault untilCategory framed framedAll sequence copies put places placeOf hasItem setOf itemBits modulationOctet modesAt anyBad badRecord modulationGroup every blocksBehind fieldOf joined firstGroup frontPart groupOf menuRead inSet paired lowestFrom pcmChoice itemChoice chosenFrom rows inRange elapsed applies findRow timed steppedIn
+unfolding when both either firstFault untilCategory framed framedAll sequence copies put places placeOf hasItem setOf itemBits modulationOctet modesAt anyBad badRecord modulationFrom every blocksBehind fieldOf joined firstGroup frontPart groupOf menuRead inSet paired lowestFrom pcmChoice itemChoice chosenFrom rows inRange elapsed applies findRow timed steppedIn
 worked-values-hold = refl and refl and refl and refl and refl and refl and refl and refl and refl and refl and refl and refl and refl and refl and refl and refl and refl and refl and refl and refl and done

@@ -30,7 +30,7 @@ use Rattle.menus.specs.Groups.{firstGroup, frontPart, groupOf}
 use Rattle.menus.specs.Offer.{offerOf, menuRead}
 use Rattle.menus.specs.Pcm.{paired}
 use Rattle.records.specs.declared.Record.{Record}
-use Rattle.offers.specs.Making.{recordFault, madeCm, madeJm}
+use Rattle.offers.specs.Making.{madeCm, madeJm}
 use Rattle.choices.specs.Choosing.{lowestFrom, pcmChoice, itemChoice, chosenFrom}
 use Rattle.demands.specs.Joint.{cmOf, jmOf}
 use Rattle.demands.specs.WrongPrograms.{First, FirstTwo, CountsWhatItWrote, NoNamedWrongProgramFits}
@@ -105,7 +105,7 @@ cm-counts : (own : Record) (function : ℕ) (blocks out : List ℕ) → CountsWh
 cm-counts own function blocks out = put-counts _ (cmOf own function blocks) out
 
 jm-counts : (own : Record) (heardCm out : List ℕ) → CountsWhatItWrote (jmOf own heardCm) (madeJm own heardCm out)
-jm-counts own heardCm out = let menu = jmOf own heardCm in put-counts (before (recordFault own) (before (listFault Reading heardCm) (roomFault menu out))) menu out
+jm-counts own heardCm out = put-counts _ (jmOf own heardCm) out
 
 differ : {A : Type 0} (m n k : ℕ) → m ≡ k → n ≡ k → (m ≡ n → ⊥) → A
 differ m n k e f apart = absurd (apart (e ∙ sym f))

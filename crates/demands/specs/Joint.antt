@@ -13,13 +13,13 @@ use Rattle.menus.specs.declared.Offer.{Offer}
 use Rattle.items.specs.Items.{inSet, hasItem}
 use Rattle.menus.specs.Groups.{groupOf}
 use Rattle.items.specs.Items.{modulation}
-use Rattle.menus.specs.Offer.{offerOf, offers, menuRead}
+use Rattle.menus.specs.Offer.{stands, offerOf, offers, menuRead}
 use Rattle.records.specs.declared.Record.{Record}
 use Rattle.records.specs.declared.Modes.{Modes}
 use Rattle.records.specs.Record.{flag, noModes, badRecord}
 use Rattle.offers.specs.Offering.{bit, cmAccess, cmOffer, jmOffer}
 use Rattle.menus.specs.Pcm.{analogue, digital, v91}
-use Rattle.offers.specs.Making.{menuOf, withField}
+use Rattle.offers.specs.Making.{withField, jmMenu}
 
 -- a record of six functions that is not "bad (10)"
 pub record AcceptedRecord (own : Record) : Type 0 where
@@ -32,7 +32,7 @@ cmOf own function blocks = withField (cmOffer own function) blocks
 
 -- the JM that a record makes for what it heard: what `madeJm` writes
 abbrev pub jmOf : Record → List ℕ → List ℕ
-jmOf own heard = menuOf (jmOffer own (offerOf heard))
+jmOf own heard = jmMenu own heard
 
 -- a menu has an item: its bit stands in the first modulation group
 abbrev pub has : List ℕ → ℕ → Bool
@@ -52,6 +52,21 @@ hasFor own function i = both (isAvailable own function) (inSet (filledIn own fun
 
 abbrev pub pcmFor : Record → ℕ → ℕ
 pcmFor own function = when (isAvailable own function) (filledIn own function .pcm) 0
+
+-- "no mode in common": no item from 1 to 12 that the record has for the heard function is in the heard menu
+abbrev pub NoModeInCommon : Record → List ℕ → Type 0
+NoModeInCommon own heard = (i : ℕ) → 0 < i → i < 13 → both (hasFor own (offerOf heard .function) i) (has heard i) ≡ false
+
+-- what a JM says: what it offers, "and item 0 still goes with PCM if a group is there"
+abbrev pub jmSays : Record → List ℕ → Offer
+jmSays own heard = let jm = jmOffer own (offerOf heard) in record {
+  function = jm .function;
+  items = when (stands (groupOf (jmOf own heard) modulation)) (jm .items) 0;
+  pcm = jm .pcm;
+  lapm = jm .lapm;
+  access = jm .access;
+  «access_options» = jm .«access_options»;
+}
 
 -- "exactly the modes that both ends have for the call function": items 1 to 12, and the pairings of PCM
 pub record HoldsWhatBothHave (own : Record) (heard : List ℕ) : Type 0 where

@@ -10,6 +10,7 @@ pub mod FieldBlocks
 pub mod FieldBits
 pub mod BadRecord
 pub mod OneChoice
+pub mod HeardCount
 pub mod Undefined
 pub mod TableLines
 pub mod QuietBeforeCm

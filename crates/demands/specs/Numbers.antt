@@ -60,11 +60,11 @@ pub record NumbersAreToldApart : Type 0 where
   pub manyReportsApart : (rec rec′ : Listener) (bits bits′ : List ℕ) → toldCode (heardBits rec bits .report) ≡ toldCode (heardBits rec′ bits′ .report) → heardBits rec bits .report ≡ heardBits rec′ bits′ .report
   pub places : (octets : List ℕ) (t : ℕ) → placeNumber (lookedCode (looked octets t)) ≡ true
   pub placesApart : (octets octets′ : List ℕ) (t t′ : ℕ) → lookedCode (looked octets t) ≡ lookedCode (looked octets′ t′) → looked octets t ≡ looked octets′ t′
-  -- `tailsprig_cm`: 4 to 64 octets, and 4 to 7 without blocks; `tailsprig_jm`: 4 to 7; `tailsprig_fields`: 0 to 38
+  -- `tailsprig_cm`: 4 to 64 octets, and 4 to 7 without blocks; `tailsprig_jm`: 1 to 64; `tailsprig_fields`: 0 to 38
   pub cmSize : (own : Record) (function : ℕ) (blocks out : List ℕ) (size : ℕ) → madeCm own function blocks out .answer ≡ count size → between 4 64 size ≡ true
   pub cmAlone : (own : Record) (function : ℕ) (out : List ℕ) (size : ℕ) → madeCm own function [] out .answer ≡ count size → between 4 7 size ≡ true
   pub fieldSize : (heard out : List ℕ) (size : ℕ) → fieldRead heard out .answer ≡ count size → between 0 38 size ≡ true
-  pub jmSize : (own : Record) (heard out : List ℕ) (size : ℕ) → madeJm own heard out .answer ≡ count size → between 4 7 size ≡ true
+  pub jmSize : (own : Record) (heard out : List ℕ) (size : ℕ) → madeJm own heard out .answer ≡ count size → between 1 64 size ≡ true
 
 -- "Agreed CM and agreed JM carry the choice: none, an item, or PCM options, for JM also 'refused with 11'."
 abbrev pub asChosen : Chosen → ℕ

@@ -10,7 +10,7 @@ use Rattle.records.specs.declared.Record.{Record}
 use Rattle.menus.specs.Offer.{offerOf}
 use Rattle.menus.specs.Pcm.{v91, paired}
 use Rattle.choices.specs.Choosing.{Chosen, none, item, pcm, refusal, choiceOf}
-use Rattle.demands.specs.Joint.{AcceptedRecord, cmOf, jmOf, has, isAvailable, hasFor, pcmFor}
+use Rattle.demands.specs.Joint.{AcceptedRecord, cmOf, jmOf, isAvailable, hasFor, pcmFor, NoModeInCommon}
 
 -- "no mode and no PCM pairing is shared for that function": no item from 1 to 12, and no PCM option that pairs
 pub record NothingShared (caller answerer : Record) (function : ℕ) : Type 0 where
@@ -57,10 +57,10 @@ pub record BothNameOneChoice (caller answerer : Record) (function : ℕ) (blocks
 -- nothing for a JM, from our record and a CM that another maker's modem sent. PCM b5 and b6 go in "only when item 1 is shared", so where no
 -- item is, "b7 if both have V.91" is left
 pub record NothingInBoth (answerer : Record) (heardCm : List ℕ) : Type 0 where
-  pub items : (i : ℕ) → 0 < i → i < 13 → both (hasFor answerer (offerOf heardCm .function) i) (has heardCm i) ≡ false
+  pub items : NoModeInCommon answerer heardCm
   pub b7 : v91 (pcmFor answerer (offerOf heardCm .function)) * v91 (offerOf heardCm .pcm) ≡ 0
 
--- for any CM that can be read, whoever sent it. What our JM then holds is `HoldsWhatBothHave`
+-- for any CM that can be read, whoever sent it, and a JM that does not "pass 64 octets". What our JM then holds is `HoldsWhatBothHave`
 pub record AnswersAnyCm (answerer : Record) (heardCm : List ℕ) : Type 0 where
   -- our JM is never one from which the choice is refused
   pub offered : (n : ℕ) → answererNames answerer heardCm ≡ refusal n → ⊥

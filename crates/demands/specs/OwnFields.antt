@@ -16,7 +16,7 @@ use Rattle.fields.specs.Packing.{packed, unpacked}
 use Rattle.fields.specs.Field.{fieldRead}
 use Rattle.records.specs.declared.Record.{Record}
 use Rattle.offers.specs.Offering.{cmOffer}
-use Rattle.offers.specs.Making.{menuOf, madeCm}
+use Rattle.offers.specs.Making.{houseCount, menuOf, madeCm}
 use Rattle.demands.specs.RefusalOrder.{firstOf, badFault, unavailable, badlyPacked, badBlocks, tooShort}
 use Rattle.demands.specs.Joint.{cmOf, jmOf}
 use Rattle.demands.specs.Undefined.{ChangesNothing}
@@ -51,10 +51,10 @@ pub record OwnFieldsAreKept : Type 0 where
   -- "The field stands last in CM": behind the CM without one, the category octet 0F and the extension octets
   pub last : (own : Record) (function : ℕ) (blocks : List ℕ) → 0 < length blocks → cmOf own function blocks ≡ cmOf own function [] ++ 0x0F ∷ packed blocks
   pub size : (own : Record) (function : ℕ) (blocks : List ℕ) → 0 < length blocks → length (cmOf own function blocks) ≡ length (cmOf own function []) + 1 + (8 * length blocks + 4) / 5
-  -- "JM never carries it."
-  pub jm : (own : Record) (heard : List ℕ) → looked (jmOf own heard) 15 ≡ nowhere
+  -- "JM never carries it.", where it does not "pass 64 octets"
+  pub jm : (own : Record) (heard : List ℕ) → length (jmOf own heard) ≤ 64 → looked (jmOf own heard) 15 ≡ nowhere
   -- "With no blocks CM has no field.": it is made as before the request, octet for octet, and refused as before
-  pub none : (own : Record) (function : ℕ) (out : List ℕ) → let menu = menuOf (cmOffer own function) in
+  pub none : (own : Record) (function : ℕ) (out : List ℕ) → let menu = menuOf houseCount (cmOffer own function) in
       madeCm own function [] out ≡ put (firstOf (badFault own ∷ unavailable own function ∷ tooShort menu out ∷ [])) menu out
   -- a field changes nothing that the reader says, no JM and no choice
   pub changes : (own : Record) (function : ℕ) (blocks : List ℕ) → length (cmOf own function blocks) ≤ 64 → ChangesNothing (cmOf own function []) (cmOf own function blocks)

@@ -107,9 +107,9 @@ pub record RefusalsComeInOrder : Type 0 where
       ≡ answered (count (length (fieldOctets (groupOf heard 15)))) lent.refusal (firstOf (listFault Reading heard ∷ badlyPacked (groupOf heard 15) ∷ badBlocks (fieldOctets (groupOf heard 15)) ∷ tooShort (fieldOctets (groupOf heard 15)) out ∷ []))
   pub cm : (own : Record) (function : ℕ) (blocks out : List ℕ) → madeCm own function blocks out .answer
       ≡ answered (count (length (cmOf own function blocks))) lent.refusal (firstOf (badFault own ∷ unavailable own function ∷ tooMany (cmOf own function blocks) ∷ badBlocks blocks ∷ tooShort (cmOf own function blocks) out ∷ []))
-  -- "menus from records 10, then the heard CM's refusals or 5, then 6"
+  -- "menus from records 10, then the heard CM's refusals or 5, then 6"; Req 03: "A JM that would pass 64 octets is refused with 4, just before 6."
   pub jm : (own : Record) (heard out : List ℕ) → madeJm own heard out .answer
-      ≡ answered (count (length (jmOf own heard))) lent.refusal (firstOf (badFault own ∷ listFault Reading heard ∷ tooShort (jmOf own heard) out ∷ []))
+      ≡ answered (count (length (jmOf own heard))) lent.refusal (firstOf (badFault own ∷ listFault Reading heard ∷ tooMany (jmOf own heard) ∷ tooShort (jmOf own heard) out ∷ []))
   -- "the choice CM, JM, 11"
   pub choice : (cm jm : List ℕ) → choiceOf cm jm ≡ answered (chosenFrom (offerOf cm) (offerOf jm)) refusal (firstOf (listFault Reading cm ∷ listFault Reading jm ∷ []))
   pub eleven : (cm jm : List ℕ) (n : ℕ) → firstOf (listFault Reading cm ∷ listFault Reading jm ∷ []) ≡ 0 → choiceOf cm jm ≡ refusal n → n ≡ 11

@@ -68,6 +68,11 @@ field-fine p later octets =
     either-way (λ (l : List ℕ). firstFault p l ≡ 0) (eqb (length octets) 0) [] (categoryOctet fieldTag 0 ∷ packed octets) (λ _. refl)
     (λ _. group-fine p (categoryOctet fieldTag 0) (packed octets) (category-there fieldTag 0) (packed-extensions octets) ∙ later)
 
+-- a menu without one has none
+pub no-field : (count : ℕ) (offer : Offer) → groupOf (menuOf count offer) fieldTag ≡ []
+unfolding when
+no-field count offer = found count offer fieldTag
+
 module _ (offer : Offer) (blocks : List ℕ) where
   -- each group of a menu with a field: that of the menu, or the field
   pub group-with-field : (t : ℕ) → groupOf (withField offer blocks) t ≡ orElse (groupOf (menuOf houseCount offer) t) (when (eqb fieldTag t) (fieldOf blocks) [])
@@ -77,17 +82,12 @@ module _ (offer : Offer) (blocks : List ℕ) where
       ∙ ap (orElse (groupFrom t (menuOf houseCount offer))) (group-of-field blocks t)
       ∙ ap (λ (l : List ℕ). orElse l (when (eqb fieldTag t) (fieldOf blocks) [])) (sym (group-from (menuOf houseCount offer) t))
 
-  -- a menu without one has none
-  pub no-field : groupOf (menuOf houseCount offer) fieldTag ≡ []
-  unfolding when
-  no-field = found houseCount offer fieldTag
-
   pub own-field : groupOf (withField offer blocks) fieldTag ≡ fieldOf blocks
   unfolding when
-  own-field = group-with-field fieldTag ∙ ap (λ (l : List ℕ). orElse l (fieldOf blocks)) no-field
+  own-field = group-with-field fieldTag ∙ ap (λ (l : List ℕ). orElse l (fieldOf blocks)) (no-field houseCount offer)
 
   -- and every other group is as without it
-  other-group : (t : ℕ) → eqb fieldTag t ≡ false → groupOf (withField offer blocks) t ≡ groupOf (menuOf houseCount offer) t
+  pub other-group : (t : ℕ) → eqb fieldTag t ≡ false → groupOf (withField offer blocks) t ≡ groupOf (menuOf houseCount offer) t
   unfolding when
   other-group t other = group-with-field t ∙ ap (λ (b : Bool). orElse (groupOf (menuOf houseCount offer) t) (when b (fieldOf blocks) [])) other ∙ or-nothing (groupOf (menuOf houseCount offer) t)
 

@@ -3,19 +3,20 @@
 use Prim.Native.Nat.{ℕ, zero, suc, _<_, _≤_, _+_, _*_, _/_}
 use native.Mathlib.Nat.{not-suc-le-zero}
 use native.Mathlib.Omega.{arith}
-use mathlib.Core.Path.{_≡_, refl, sym, ap, subst, _∙_}
+use mathlib.Core.Path.{_≡_, refl, sym, ap, ap₂, subst, _∙_}
 use mathlib.Core.Bool.{Bool, true, false}
 use mathlib.Core.List.{List, [], _∷_, _++_}
 use borrow.Author.Tests.{lt-ltb, le-ltb, ltb-false, ne-eqb}
 use lib.Dec.{ltb, lit<}
-use lib.ListN.{length, take, getD, length-append}
+use lib.ListN.{length, take, getD, replicate, length-append}
 use Rattle.laws.specs.Logic.{when}
 use Rattle.laws.specs.Front.{front}
 use Rattle.laws.specs.Joined.{joined}
 use Rattle.laws.proofs.Logic.{either-way, bit-of-test, clash}
 use Rattle.refusals.specs.Lent.{roomFault, put}
 use Rattle.octets.specs.Octets.{categoryOctet}
-use Rattle.items.specs.Items.{inSet, modulationOctet}
+use Rattle.items.specs.Items.{inSet, noItems, modulationOctet}
+use Rattle.items.proofs.Places.{octet-past}
 use Rattle.menus.specs.declared.Offer.{Offer}
 use Rattle.menus.specs.Offer.{pcmTag, protocol, lapmOption, access}
 use Rattle.menus.specs.Pcm.{paired}
@@ -59,6 +60,28 @@ module _ (items : ℕ) where
 
   pub modulation-at : (count k : ℕ) → k < count → getD (modulationGroup count items) k 0 ≡ modulationOctet items k
   modulation-at count k h = from-at 0 count k h ∙ ap (modulationOctet items) (omega arith)
+
+  -- one behind another: octets past the third are 10 hex
+  from-more : (octet count more : ℕ) → modulationFrom items octet (count + more) ≡ modulationFrom items octet count ++ modulationFrom items (octet + count) more
+  unfolding modulationFrom
+  from-more octet zero more =
+      let none : 0 + more ≡ more = omega arith in
+      let here : octet + 0 ≡ octet = omega arith in
+      rw (none, here)
+  from-more octet (suc count) more =
+      let one : suc count + more ≡ suc (count + more) = omega arith in
+      let past : suc octet + count ≡ octet + suc count = omega arith in
+      rw (one, sym past) (ap (λ (l : List ℕ). modulationOctet items octet ∷ l) (from-more (suc octet) count more))
+
+  from-past : (octet more : ℕ) → 2 < octet → modulationFrom items octet more ≡ replicate more noItems
+  unfolding modulationFrom
+  from-past octet zero past = refl
+  from-past octet (suc more) past = ap₂ (λ (b : ℕ) (l : List ℕ). b ∷ l) (octet-past items octet past) (from-past (suc octet) more (omega (arith, past)))
+
+  pub modulation-longer : (count more : ℕ) → (0 < more → 2 < count) → modulationGroup (count + more) items ≡ modulationGroup count items ++ replicate more noItems
+  unfolding modulationFrom
+  modulation-longer count zero past = from-more 0 count zero
+  modulation-longer count (suc more) past = from-more 0 count (suc more) ∙ ap (λ (l : List ℕ). modulationGroup count items ++ l) (from-past (0 + count) (suc more) (omega (arith, past (omega arith))))
 
 one-length : (there : Bool) (octet : ℕ) → length (oneOctet there octet) ≡ bit there
 unfolding when

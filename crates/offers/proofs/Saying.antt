@@ -20,7 +20,7 @@ use Rattle.offers.proofs.Making.{bit-small, access-small, jm-pcm-small}
 use Rattle.offers.proofs.Meaning.{Sayable}
 
 -- item 0 beside a set of items
-with-item-0-small : (there : Bool) (items : ℕ) → items < 8192 → withItem0 there items < 8192
+pub with-item-0-small : (there : Bool) (items : ℕ) → items < 8192 → withItem0 there items < 8192
 with-item-0-small there items h = omega (arith, h, bit-small there)
 
 -- no access group, no options
