@@ -4,7 +4,7 @@
 use borrow.Author.Needs.{needs}
 use borrow.Author.Tests.{lt-ltb, le-ltb, eqb-true}
 use native.Mathlib.Omega.{arith}
-use mathlib.Core.List.{List}
+use Prim.Native.Nat.{_≤_}
 use mathlib.Core.Path.{ap}
 use denote.Ref.{now}
 use lib.ListN.{length}
@@ -12,6 +12,7 @@ use Rattle.laws.specs.Logic.{when}
 use Rattle.octets.specs.declared.Purpose.the-variants.{Reading}
 use Rattle.octets.proofs.Lists.{accepted-short}
 use Rattle.items.specs.Items.{modulation}
+use Rattle.menus.specs.Groups.{groupOf}
 use Rattle.menus.proofs.Joined.{group-short}
 use Rattle.offers.proofs.modulation_count.Statement.{statement}
 use Rattle.offers.proofs.modulation_count.Tie as tie
@@ -23,15 +24,19 @@ returns c = simp (lt-ltb _ _ (c .if1 .taken))
 group-of-requires : tie.Need-group-of-requires
 group-of-requires c κs = search needs
 
-cast-result : tie.Need-cast-result
-cast-result c =
-    let start = c .before .before .before .before in
+-- as many octets as the message has at most
+few : (found : tie.After-group-of) → length (groupOf (now (found .before .before .before .before .args .heard-cm)) modulation) ≤ 64
+few found =
+    let start = found .before .before .before .before in
     let heard = now (start .args .heard-cm) in
-    omega (arith, ap length (c .group-of .ensures), group-short heard modulation, accepted-short Reading heard (eqb-true _ 0 (start .pre)))
+    omega (arith, group-short heard modulation, accepted-short Reading heard (eqb-true _ 0 (start .pre)))
+
+cast-result : tie.Need-cast-result
+cast-result c = omega (arith, ap length (c .group-of .ensures), few c)
 
 returns-2 : tie.Need-returns-2
 unfolding when
-returns-2 c = simp (le-ltb _ _ (c .before .if1 .left), c .group-of .ensures)
+returns-2 c = simp (le-ltb _ _ (c .before .if1 .left)) (omega (arith, ap length (c .group-of .ensures), few c))
 
 pub modulation-count-spec : {M : Type 1} → statement M
 modulation-count-spec = tie.close (tie.spec returns group-of-requires cast-result returns-2)
