@@ -107,11 +107,37 @@ pub enum Mistake {
     BlocksBeforePacking,
     /// JM carries the field of CM.
     JmWithField,
+    /// JM's modulation group has always three octets, as it had before request 03.
+    AlwaysThree,
+    /// JM has as many modulation octets as CM where an item is in common too.
+    HeardCountAlways,
+    /// With another function JM has three modulation octets.
+    ThreeForAnotherFunction,
+    /// V.91 alone in common is taken for a mode in common.
+    ThreeWithV91,
+    /// The octets of CM's last modulation group are counted.
+    LastCount,
+    /// The count of a heard modulation group stops at 62.
+    CountTo62,
+    /// Where CM has no modulation group, JM has one of a category octet alone.
+    OneForNone,
+    /// PCM brings a modulation group into JM where CM has none.
+    GroupForItem0,
+    /// Item 0 goes with PCM only where a mode is in common.
+    Item0NeedsAMode,
+    /// Item 0 is set in the first extension octet of JM too.
+    Item0InExtension,
+    /// The modulation octets of JM past the third are those of CM.
+    ExtraCopied,
+    /// A JM of 65 octets is not refused.
+    JmOf65,
+    /// In making a JM 6 comes before 4.
+    RoomBeforeSize,
 }
 
 impl Mistake {
     /// Every mistake with the name that it is asked for by.
-    pub const ALL: [(&str, Mistake); 30] = [
+    pub const ALL: [(&str, Mistake); 43] = [
         ("room-for-one", Mistake::RoomForOne),
         ("nine-ones", Mistake::NineOnes),
         ("octet-55", Mistake::Octet55),
@@ -142,5 +168,18 @@ impl Mistake {
         ("blocks-before-size", Mistake::BlocksBeforeSize),
         ("blocks-before-packing", Mistake::BlocksBeforePacking),
         ("jm-with-field", Mistake::JmWithField),
+        ("always-three", Mistake::AlwaysThree),
+        ("heard-count-always", Mistake::HeardCountAlways),
+        ("three-for-another-function", Mistake::ThreeForAnotherFunction),
+        ("three-with-v91", Mistake::ThreeWithV91),
+        ("last-count", Mistake::LastCount),
+        ("count-to-62", Mistake::CountTo62),
+        ("one-for-none", Mistake::OneForNone),
+        ("group-for-item-0", Mistake::GroupForItem0),
+        ("item-0-needs-a-mode", Mistake::Item0NeedsAMode),
+        ("item-0-in-extension", Mistake::Item0InExtension),
+        ("extra-copied", Mistake::ExtraCopied),
+        ("jm-of-65", Mistake::JmOf65),
+        ("room-before-size", Mistake::RoomBeforeSize),
     ];
 }

@@ -2,7 +2,7 @@
 use super::{
     bits::MOST_OCTETS,
     fields::FIELD,
-    octets::{ACCESS, CALL_FUNCTION, ITEMS, LAPM, MODULATION, PCM, PROTOCOL},
+    octets::{options, ACCESS, CALL_FUNCTION, ITEMS, LAPM, MODULATION, PCM, PROTOCOL},
     Access, Menu, Mistake, Model, Pcm, Refusal,
 };
 
@@ -62,25 +62,27 @@ pub(super) fn category(tag: u8, options: u8) -> u8 {
     tag + 32 * options
 }
 
-/// "The modulation group has always three octets": a category octet and two extension octets.
-fn modulation(items: &[u8]) -> [u8; 3] {
-    let mut group = [MODULATION, 0x10, 0x10];
-    for &item in items {
-        let (octet, number) = ITEMS[usize::from(item)];
-        group[octet] |= 1 << number;
+/// "The modulation group has always three octets", but for the JM of which request 03 says otherwise.
+const THREE: usize = 3;
+
+/// The modulation group of a menu that we make, in so many octets: a category octet and extension octets, or no group. Item 0 goes with
+/// PCM: it "says only that PCM is present". Request 03: "extra ones are 10 hex, and item 0 still goes with PCM if a group is there".
+fn modulation(menu: &Menu, count: usize) -> Vec<u8> {
+    let mut group: Vec<u8> = (0..count).map(|place| if place == 0 { MODULATION } else { 0x10 }).collect();
+    let item_0 = menu.pcm.map(|_| 0);
+    for item in menu.items.iter().copied().chain(item_0) {
+        let (place, number) = ITEMS[usize::from(item)];
+        if let Some(octet) = group.get_mut(place) {
+            *octet |= 1 << number;
+        }
     }
     group
 }
 
-/// "Group order is house: call function, modulation, PCM, protocol, access." Item 0 goes with PCM: it "says only that PCM is
-/// present".
-fn made(menu: &Menu) -> Vec<u8> {
+/// "Group order is house: call function, modulation, PCM, protocol, access."
+fn made(menu: &Menu, modulation: Vec<u8>) -> Vec<u8> {
     let mut octets = vec![category(CALL_FUNCTION, menu.function)];
-    let mut items = menu.items.clone();
-    if menu.pcm.is_some() {
-        items.push(0);
-    }
-    octets.extend(modulation(&items));
+    octets.extend(modulation);
     octets.extend(menu.pcm.map(|pcm| category(PCM, pcm.options())));
     octets.extend(menu.lapm.then_some(category(PROTOCOL, LAPM)));
     octets.extend(menu.access.map(|access| category(ACCESS, access.options())));
@@ -111,7 +113,7 @@ impl Model {
             lapm: own.lapm,
             access: (own.access || pcm.is_some()).then_some(access),
         };
-        let mut octets = made(&menu);
+        let mut octets = made(&menu, modulation(&menu, THREE));
         let field_at = match menu.access {
             Some(_) if self.makes(Mistake::FieldBeforeAccess) => octets.len() - 1,
             _ => octets.len(),
@@ -129,7 +131,7 @@ impl Model {
     }
 
     /// JM for a heard CM. Request 02: "The field stands last in CM; JM never carries it." Order: 10, "then the heard CM's refusals",
-    /// then 6.
+    /// then 4 of request 03, then 6.
     pub fn jm(&self, own: &Record, heard: &[u8], room: usize) -> Result<Vec<u8>, Refusal> {
         own.tested()?;
         let theirs = self.read(heard)?;
@@ -158,11 +160,60 @@ impl Model {
             lapm: theirs.lapm && own.lapm,
             access: (own.access || caller_cellular || pcm.is_some()).then_some(access),
         };
-        let mut octets = made(&menu);
+        let mut octets = made(&menu, self.answering(&menu, heard));
         if self.makes(Mistake::JmWithField) {
             octets.extend(self.group(heard, FIELD).unwrap_or(&[]));
         }
+        if self.makes(Mistake::RoomBeforeSize) {
+            octets = fitting(octets, room)?;
+        }
+        // "A JM that would pass 64 octets is refused with 4, just before 6."
+        if octets.len() > MOST_OCTETS && !self.makes(Mistake::JmOf65) {
+            return Err(Refusal(4));
+        }
         fitting(octets, room)
+    }
+
+    /// The modulation group of a JM. Of the heard one it has the items in both and, where there are none, the count; all else that was
+    /// heard there is left out.
+    fn answering(&self, jm: &Menu, heard: &[u8]) -> Vec<u8> {
+        let mut group = modulation(jm, self.answering_octets(jm, heard));
+        if self.makes(Mistake::Item0NeedsAMode) && jm.items.is_empty() {
+            group.iter_mut().take(1).for_each(|octet| *octet &= !(1 << 5));
+        }
+        if self.makes(Mistake::Item0InExtension) && jm.pcm.is_some() {
+            group.iter_mut().skip(1).take(1).for_each(|octet| *octet |= 1 << 5);
+        }
+        if self.makes(Mistake::ExtraCopied) {
+            let heard = self.group(heard, MODULATION).unwrap_or(&[]);
+            group.iter_mut().zip(heard).skip(THREE).for_each(|(octet, heard)| *octet = *heard);
+        }
+        group
+    }
+
+    /// How many octets that group has. Request 03: "with no mode in common, or with another function, JM holds the same number of
+    /// modulation octets as CM"; "With a mode in common it stays at three." With another function no mode is in common either.
+    fn answering_octets(&self, jm: &Menu, heard: &[u8]) -> usize {
+        let three = match jm.items.is_empty() {
+            false => !self.makes(Mistake::HeardCountAlways),
+            true => {
+                self.makes(Mistake::AlwaysThree)
+                    || self.makes(Mistake::ThreeForAnotherFunction) && jm.function != options(heard[0])
+                    || self.makes(Mistake::ThreeWithV91) && jm.pcm.is_some()
+            }
+        };
+        if three {
+            return THREE;
+        }
+        // "the count is that of the heard group, none if it had none".
+        let counted = if self.makes(Mistake::LastCount) { Model::broken(Mistake::LastGroup) } else { *self };
+        match counted.group(heard, MODULATION) {
+            Some(group) if self.makes(Mistake::CountTo62) => group.len().min(62),
+            Some(group) => group.len(),
+            None if self.makes(Mistake::OneForNone) => 1,
+            None if self.makes(Mistake::GroupForItem0) && jm.pcm.is_some() => 1,
+            None => 0,
+        }
     }
 
     /// "items in both", from 1 to 12: item 0 goes with our own PCM group alone.
