@@ -339,8 +339,8 @@ fn cm(model: &Model, random: &mut Random, answers: &mut Answers) -> Result<(), D
 
 fn jm(model: &Model, random: &mut Random, answers: &mut Answers) -> Result<(), Difference> {
     let own = inputs::record(random);
-    let heard = inputs::cm(random);
-    let room = inputs::menu_room(random);
+    let heard = inputs::answered_cm(random);
+    let room = inputs::jm_room(random, &own, &heard);
     // SAFETY: as for `cm` and `write`.
     let library =
         |out: &mut [u8]| unsafe { c::tailsprig_jm(own, heard.as_ptr(), heard.len(), out.as_mut_ptr(), out.len()) };

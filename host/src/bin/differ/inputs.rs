@@ -5,8 +5,11 @@ use crate::{
 };
 use tailsprig::{c, model::Model, numbers};
 
+/// The tag of a modulation group.
+const MODULATION: u8 = 5;
+
 /// The tags that the documents give a meaning.
-const TAGS: [u8; 6] = [1, 5, 7, 10, 13, FIELD];
+const TAGS: [u8; 6] = [1, MODULATION, 7, 10, 13, FIELD];
 
 pub fn extension_octet(random: &mut Random) -> u8 {
     match random.below(8) {
@@ -25,8 +28,8 @@ pub fn group(random: &mut Random, tag: u8, extensions: usize) -> Vec<u8> {
 /// A group that menus have, as V.8 builds it or a little longer or shorter.
 fn known_group(random: &mut Random, tag: u8) -> Vec<u8> {
     let extensions = match (tag, random.below(4)) {
-        (5, 0) => random.below(5),
-        (5, _) => 2,
+        (MODULATION, 0) => random.below(5),
+        (MODULATION, _) => 2,
         (_, 0) => random.below(3),
         _ => 0,
     };
@@ -40,8 +43,8 @@ fn known_group(random: &mut Random, tag: u8) -> Vec<u8> {
 /// A menu that reading does not refuse.
 pub fn sound_menu(random: &mut Random) -> Vec<u8> {
     let mut groups: Vec<Vec<u8>> = Vec::new();
-    for tag in [5, 7, 10, 13] {
-        if !random.one_in(if tag == 5 { 10 } else { 3 }) {
+    for tag in [MODULATION, 7, 10, 13] {
+        if !random.one_in(if tag == MODULATION { 10 } else { 3 }) {
             groups.push(known_group(random, tag));
         }
     }
@@ -213,9 +216,73 @@ pub fn cm(random: &mut Random) -> Vec<u8> {
     }
 }
 
+/// A modulation group of so many octets, in half of all cases without an item from 1 to 12, so that none can be in common.
+fn modulation_group(random: &mut Random, count: usize) -> Vec<u8> {
+    let mut octets = match count.checked_sub(1) {
+        Some(extensions) => group(random, MODULATION, extensions),
+        None => Vec::new(),
+    };
+    if random.one_in(2) {
+        octets.iter_mut().zip([0x2f, 0x10, 0x10]).for_each(|(octet, kept)| *octet &= kept);
+    }
+    octets
+}
+
+/// A CM to answer whose modulation group has any number of octets, none and as many as there can be; often the CM is about as long as one
+/// may be, or one octet longer. There may be another modulation group, before or behind it.
+fn cm_of_any_length(random: &mut Random) -> Vec<u8> {
+    let mut groups: Vec<Vec<u8>> = Vec::new();
+    if random.one_in(3) {
+        groups.push(vec![0x2a]);
+    }
+    if random.one_in(3) {
+        groups.extend([7, 13].map(|tag| group(random, tag, 0)));
+    }
+    if random.one_in(4) {
+        let count = random.below(6);
+        groups.push(modulation_group(random, count));
+    }
+    let most = 63 - groups.concat().len();
+    let count = match random.below(4) {
+        0 => random.of(&[0, 0, 1, 2, 3]),
+        1 => random.below(most),
+        _ => most + 1 - random.below(5),
+    };
+    let at = random.below(groups.len() + 1);
+    groups.insert(at, modulation_group(random, count));
+    let function = if random.one_in(2) { 6 } else { random.byte() % 8 };
+    let mut octets = vec![function * 32 + 1];
+    octets.extend(groups.concat());
+    if random.one_in(8) {
+        damage(random, &mut octets);
+    }
+    octets
+}
+
+/// A CM to answer. How many octets JM has goes by that of its modulation group.
+pub fn answered_cm(random: &mut Random) -> Vec<u8> {
+    if random.one_in(2) {
+        cm(random)
+    } else {
+        cm_of_any_length(random)
+    }
+}
+
+/// Room for the JM of a record: often exactly as much as it takes, or one octet less.
+pub fn jm_room(random: &mut Random, own: &c::Record, heard: &[u8]) -> usize {
+    let made = numbers::record(own).and_then(|own| Model::default().jm(&own, heard, usize::MAX));
+    let needed = made.map_or(64, |octets| octets.len());
+    match random.below(6) {
+        0 => random.below(70),
+        1 => needed - 1,
+        2 | 3 => needed,
+        _ => needed + random.below(8),
+    }
+}
+
 /// A JM for a CM: that of a record, mostly; or the CM again, or any menu.
 pub fn jm(random: &mut Random, cm: &[u8]) -> Vec<u8> {
-    let made = numbers::record(&record(random)).and_then(|own| Model::default().jm(&own, cm, 7));
+    let made = numbers::record(&record(random)).and_then(|own| Model::default().jm(&own, cm, 64));
     let mut octets = match (random.below(6), made) {
         (0..=3, Ok(octets)) => octets,
         (4, _) => cm.to_vec(),
