@@ -45,6 +45,10 @@ extern "C" {
  * another second one, have to be built anew; a shared library of another such number is not found when they start.
  * With another second number a call may answer otherwise than before; what a host then has to change:
  *
+ *   0.4.0  A JM without a mode in common has as many modulation octets as the heard CM, and no longer three: 1 to 64
+ *          octets in all. Lend tailsprig_jm TAILSPRIG_MENU_MOST of them, since a buffer of 7 may be refused with 6.
+ *          One that would have more is refused with 4; a host then hands over no event ('No JM' in Sessions). Nothing
+ *          else changes.
  *   0.3.0  tailsprig_cm takes the octets of our own blocks behind the function; a host without any gives a pointer that
  *          is not NULL and 0. TAILSPRIG_MENU_MOST is 64 where it was 7, so buffers by that name grow. There are two
  *          more refusals: 14 of tailsprig_cm with blocks, 14 and 15 of the calls for fields, which are new.
@@ -52,9 +56,9 @@ extern "C" {
  *          that long, as textphones, calls tailsprig_start_caller with TAILSPRIG_TE_TEXTPHONE in its place. A host
  *          that gives Te has nothing to change.
  */
-#define TAILSPRIG_VERSION "0.3.0"
+#define TAILSPRIG_VERSION "0.4.0"
 #define TAILSPRIG_VERSION_MAJOR 0
-#define TAILSPRIG_VERSION_MINOR 3
+#define TAILSPRIG_VERSION_MINOR 4
 #define TAILSPRIG_VERSION_PATCH 0
 
 /* ---- Numbers with names ---- */
@@ -64,7 +68,8 @@ enum tailsprig_refusal {
     TAILSPRIG_NOT_A_BIT = 1,        /* a bit that is not 0 or 1 */
     TAILSPRIG_STOP_BIT_ZERO = 2,    /* a stop bit that is 0 */
     TAILSPRIG_BAD_OCTET = 3,        /* b4 = 1 with b3 or b5 = 1 */
-    TAILSPRIG_TOO_MANY_OCTETS = 4,  /* over 64 octets; in tailsprig_cm, the whole CM with its field */
+    TAILSPRIG_TOO_MANY_OCTETS = 4,  /* over 64 octets; in tailsprig_cm, the whole CM with its field; in tailsprig_jm,
+                                       the heard CM or the JM */
     TAILSPRIG_NO_CALL_FUNCTION = 5, /* no octets, or the first is not a category octet with tag 1; in tailsprig_cm, a
                                        function that is not available */
     TAILSPRIG_SHORT_BUFFER = 6,     /* the lent buffer is too short */
@@ -461,11 +466,19 @@ int32_t tailsprig_cm(struct tailsprig_record own, uint8_t function, const uint8_
                      uint8_t *out, size_t out_len);
 
 /*
- * Makes the JM of a record for a heard CM into out, and answers how many octets it has, 4 to 7. It never has a field,
- * and what the CM has in one does not matter. A refusal writes nothing:
+ * Makes the JM of a record for a heard CM into out, and answers how many octets it has: 1 to 64. It never has a field,
+ * and what the CM has in one does not matter. Later bytes of out keep their values. A refusal writes nothing. In this
+ * order:
  *   10  the record is bad
  *    4, 5, 3  the heard CM cannot be read
- *    6  out is too short
+ *    4  the JM would have more than 64 octets. Only a CM of 64 leads to that, all modulation behind its call function
+ *       but for LAPM, and only where own.access is 1. Then there is no JM to send and no choice ('No JM' in Sessions)
+ *    6  out is too short, which TAILSPRIG_MENU_MOST octets never are
+ *
+ * How many modulation octets it has.  Three where an item from 1 to 12 is in common. Where none is, V.91 in common or
+ * not, and where the function is not available, as many as the first modulation group of the CM, all its extension
+ * octets counted, and none where the CM has no such group: some callers drop a call that is cleared with another number
+ * than they sent. These octets hold no item but 0, which goes with PCM if the group is there.
  */
 int32_t tailsprig_jm(struct tailsprig_record own, const uint8_t *heard, size_t heard_len, uint8_t *out,
                      size_t out_len);
@@ -542,6 +555,8 @@ int32_t tailsprig_choice(const uint8_t *cm, size_t cm_len, const uint8_t *jm, si
  *     tailsprig_jm, and hands over what it answers. CJ that the answerer hears is handed over as it is. All else that
  *     is heard asks for nothing: CI, a menu that is not agreed, a refusal, an agreed menu in another state, and CJ at
  *     the caller.
+ *   No JM.  Where tailsprig_jm refuses with 4 there is nothing to send and no choice, so the host hands over no event.
+ *     The session stays in ANSWERING, and its limit ends the call: PAUSE, then left.
  *   From CM to CJ.  The caller first finishes the octet that it is sending, with its stop bit, and then sends CJ
  *     (8.1.2). Its copy goes by tens (TAILSPRIG_OCTET_BITS), the ten 1s and the sync too, so it goes on to the next
  *     multiple of ten. It hands over CJ_SENT once the last bit of CJ is on the line.

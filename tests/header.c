@@ -220,7 +220,7 @@ NUMBER(TAILSPRIG_ENDED, 16);
 NUMBER(TAILSPRIG_GO_ON, 32);
 
 NUMBER(TAILSPRIG_VERSION_MAJOR, 0);
-NUMBER(TAILSPRIG_VERSION_MINOR, 3);
+NUMBER(TAILSPRIG_VERSION_MINOR, 4);
 NUMBER(TAILSPRIG_VERSION_PATCH, 0);
 
 #endif
@@ -692,6 +692,56 @@ static void records(void)
     CHECK(tailsprig_call_function(base, CM, sizeof CM, JM, 0) == TAILSPRIG_CALL_FUNCTION_NOWHERE);
 }
 
+/* A CM for data, all else in it modulation octets without an item. */
+static void all_modulation(uint8_t cm[TAILSPRIG_MOST_OCTETS])
+{
+    memset(cm, 0x10, TAILSPRIG_MOST_OCTETS);
+    cm[0] = 0xC1;
+    cm[1] = TAILSPRIG_TAG_MODULATION;
+}
+
+/* Without a mode in common JM has as many modulation octets as the CM. */
+static void counts(void)
+{
+    const uint8_t one[] = {0xC1, 0x45}, jm_of_one[] = {0xC1, 0x05}, shared[] = {0xC1, 0x45, 0x10, 0x10};
+    const uint8_t two_groups[] = {0xC1, 0x45, 0x0A, 0x05, 0x10, 0x10, 0x10};
+    const uint8_t five[] = {0xC1, 0x45, 0x11, 0x90, 0xD7, 0x55}, jm_of_five[] = {0xC1, 0x05, 0x10, 0x10, 0x10, 0x10};
+    const uint8_t v91[] = {0xC1, 0x45, 0x87, 0x0D}, jm_of_v91[] = {0xC1, 0x25, 0x87, 0x0D}, v91_alone[] = {0xC1, 0x87, 0x0D};
+    struct tailsprig_record own = with_function(TAILSPRIG_FUNCTION_DATA, TAILSPRIG_PCM_V91, TAILSPRIG_V22BIS), fax;
+    uint8_t cm[TAILSPRIG_MOST_OCTETS], made[TAILSPRIG_MENU_MOST];
+
+    CHECK(makes_jm(own, one, sizeof one, jm_of_one, sizeof jm_of_one) && makes_jm(own, one, 1, one, 1));
+    CHECK(makes_jm(own, two_groups, sizeof two_groups, jm_of_one, sizeof jm_of_one));
+    CHECK(makes_jm(own, five, sizeof five, jm_of_five, sizeof jm_of_five));
+    CHECK(makes_jm(own, v91, sizeof v91, jm_of_v91, sizeof jm_of_v91));
+    CHECK(makes_jm(own, v91_alone, sizeof v91_alone, v91_alone, sizeof v91_alone));
+    fax = with_function(TAILSPRIG_FUNCTION_FAX_SENT, 0, TAILSPRIG_V34);
+    CHECK(tailsprig_jm(fax, one, sizeof one, made, sizeof made) == 2 && made[0] == 0x81 && made[1] == 0x05);
+    own.functions[TAILSPRIG_FUNCTION_DATA - 1].items = TAILSPRIG_V34;
+    CHECK(makes_jm(own, one, sizeof one, shared, sizeof shared));
+
+    /* As long as a JM can be; and one that would be longer, which is told before a short buffer is. */
+    all_modulation(cm);
+    CHECK(makes_jm(own, cm, sizeof cm, cm, sizeof cm) && tailsprig_jm(own, cm, sizeof cm, made, 63) == -TAILSPRIG_SHORT_BUFFER);
+    own.access = 1;
+    memset(made, 7, sizeof made);
+    CHECK(tailsprig_jm(own, cm, sizeof cm, made, sizeof made) == -TAILSPRIG_TOO_MANY_OCTETS && made[0] == 7);
+    CHECK(tailsprig_jm(own, cm, sizeof cm, made, 0) == -TAILSPRIG_TOO_MANY_OCTETS);
+    CHECK(tailsprig_jm(own, cm, 63, made, sizeof made) == 64 && made[62] == 0x10 && made[63] == 0x0D);
+
+    /* The last octet is LAPM, which counts where both say it; an access group, which JM has too; an octet that cannot be read. */
+    cm[63] = 0x2A;
+    CHECK(tailsprig_jm(own, cm, sizeof cm, made, sizeof made) == 64);
+    own.lapm = 1;
+    CHECK(tailsprig_jm(own, cm, sizeof cm, made, sizeof made) == -TAILSPRIG_TOO_MANY_OCTETS);
+    cm[63] = 0x0D;
+    CHECK(tailsprig_jm(own, cm, sizeof cm, made, sizeof made) == 64);
+    cm[63] = 0x18;
+    CHECK(tailsprig_jm(own, cm, sizeof cm, made, sizeof made) == -TAILSPRIG_BAD_OCTET);
+    own.home = TAILSPRIG_FUNCTION_FAX_SENT;
+    CHECK(tailsprig_jm(own, cm, sizeof cm, made, sizeof made) == -TAILSPRIG_BAD_RECORD);
+}
+
 static void choice(void)
 {
     CHECK(tailsprig_choice(CM, sizeof CM, JM, sizeof JM) == TAILSPRIG_ITEM_V32BIS);
@@ -874,6 +924,7 @@ int main(void)
     blocks();
     fields();
     records();
+    counts();
     own_fields();
     choice();
     the_caller();
