@@ -119,7 +119,7 @@ static void line_agreed(struct line *line, uint32_t now)
         int32_t made = tailsprig_jm(line->own, menu, len, line->menu, sizeof line->menu);
 
         if (made < 0)
-            return; /* our record is bad: an agreed menu can be read */
+            return; /* our record is bad, or JM too long: nothing to send and no choice, so no event; a tick ends the call */
         line->menu_len = (size_t)made;
         write_copy(line);
         line_step(line, TAILSPRIG_EVENT_AGREED_CM, tailsprig_choice(menu, len, line->menu, line->menu_len), now);

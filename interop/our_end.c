@@ -60,7 +60,9 @@ static void take_agreed_menu(struct our_end *end)
         return;
     }
     int32_t len = tailsprig_jm(end->record, menu->octets, menu->len, end->sent.octets, sizeof end->sent.octets);
-    end->sent.len = len > 0 ? (size_t)len : 0;
+    if (len < 0) /* no JM to send and no choice: the limit of the state ends the call */
+        return;
+    end->sent.len = (size_t)len;
     end->choice = tailsprig_choice(menu->octets, menu->len, end->sent.octets, end->sent.len);
     take(end, TAILSPRIG_EVENT_AGREED_CM, end->choice);
 }
