@@ -706,16 +706,23 @@ fn a_menu_that_damage_makes_is_answered_as_the_model_says() {
     let mut answered: Vec<(Record, Vec<u8>)> = Vec::new();
     let fields = fs::read_to_string(root().join("tests/vectors/fields.tsv")).expect("the vectors can be read");
     let mut fields = fields.lines().skip(1).map(|row| row.split('\t').next().expect("octets").to_string());
-    for (own, [heard, _]) in records("jm.tsv") {
-        // With every name, in as many octets as a message may have.
-        let longest = [&[0xC1, 0xE5, 0xD7, 0xD7, 0xE7, 0x2A, 0xED][..], &[0xD7; 57]].concat();
+    // As long as a message may be, for half of the records, since these take long: with every name, and with modulation octets alone, of
+    // which JM has as many.
+    let named = [&[0xC1, 0xE5, 0xD7, 0xD7, 0xE7, 0x2A, 0xED][..], &[0xD7; 57]].concat();
+    let unnamed = [&[0xC1, 0x05][..], &[0x10; 62]].concat();
+    let longest = [Some(named), Some(unnamed), None, None];
+    for ((own, [heard, _]), longest) in records("jm.tsv").into_iter().zip(longest.iter().cycle()) {
         let menus = [heard].into_iter().chain(fields.by_ref().take(2)).map(|menu| text::octets(&menu).expect("octets"));
-        answered.extend(menus.chain([longest]).map(|heard| (own.clone(), heard)));
+        answered.extend(menus.chain(longest.clone()).map(|heard| (own.clone(), heard)));
     }
     let mut counts = Counts::default();
     for (own, heard) in answered {
-        let (Ok(bits), Ok(jm)) = (model.write(Kind::Menu, &heard, 2, 2000), model.jm(&own, &heard, 64)) else {
-            continue;
+        let Ok(bits) = model.write(Kind::Menu, &heard, 2, 2000) else { continue };
+        let jm = match model.jm(&own, &heard, 64) {
+            Ok(jm) => Some(jm),
+            // What is sent can be read, so that is a JM that would be too long: there is none, and no choice.
+            Err(Refusal(4)) => None,
+            Err(_) => continue,
         };
         // The caller is quiet for long, so that its line has 1s alone, and the answerer waits from 200 ms on.
         let zeros = bits.iter().enumerate().filter(|(_, bit)| **bit == 0).map(|(place, _)| 60 + place).collect();
@@ -729,15 +736,24 @@ fn a_menu_that_damage_makes_is_answered_as_the_model_says() {
         let said = call.plain();
         let printed = rehearsed(&said);
         let (plan, ladder) = plan_and_ladder(&said, &printed);
-        let choice = model.choice(&heard, &jm).expect("what we answer was offered");
         assert_eq!(plan, said);
         assert_eq!(ladder.first("hears"), Some(shown("CM", &heard)), "{said}{printed}");
+        let choice = jm.as_ref().map(|jm| model.choice(&heard, jm).expect("what we answer was offered"));
         assert_eq!(
             ladder.first("agreed"),
-            Some(chosen(choice).unwrap_or("no shared mode".to_string())),
+            choice.map(|choice| chosen(choice).unwrap_or("no shared mode".to_string())),
             "{said}{printed}"
         );
-        assert_eq!(ladder.sent("joint"), Some(shown("JM", &jm)), "{said}{printed}");
+        assert_eq!(ladder.sent("joint"), jm.as_ref().map(|jm| shown("JM", jm)), "{said}{printed}");
+        match jm.map_or(0, |jm| jm.len()) {
+            0 => {
+                assert_eq!(ladder.ending, LATE, "{said}{printed}");
+                counts.add("no JM");
+            }
+            1..=3 => counts.add("short JM"),
+            4..=7 => {}
+            _ => counts.add("long JM"),
+        }
         counts.add(match model.fields(&heard, 64) {
             Ok(octets) if octets.is_empty() => "no field",
             Ok(_) => "blocks",
@@ -745,7 +761,7 @@ fn a_menu_that_damage_makes_is_answered_as_the_model_says() {
             Err(_) => "badly packed",
         });
     }
-    counts.at_least(20, &["no field", "blocks", "no blocks", "badly packed"]);
+    counts.at_least(20, &["no field", "blocks", "no blocks", "badly packed", "no JM", "short JM", "long JM"]);
 }
 
 #[test]
