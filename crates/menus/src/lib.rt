@@ -132,7 +132,7 @@ pub fn options_in(group: &[u8]) -> u8
 }
 
 // The first group of a tag, or the empty part where there is none.
-pub fn group_of(octets: &[u8], tag: u8) -> &[u8]
+fn group_of(octets: &[u8], tag: u8) -> &[u8]
     ensures { λ r. ⌜ now r ≡ groupOf (now (octets .entry)) tag ⌝ }
 {
     let spot = first_group(octets, tag);
@@ -140,6 +140,13 @@ pub fn group_of(octets: &[u8], tag: u8) -> &[u8]
         return &octets[0..0];
     };
     part(octets, place)
+}
+
+// How many octets the first group of a tag has, 0 where there is none.
+pub fn group_size(octets: &[u8], tag: u8) -> usize
+    ensures { λ r. ⌜ r ≡ length (groupOf (now (octets .entry)) tag) ⌝ }
+{
+    group_of(octets, tag).len()
 }
 
 // PCM options as far as they count: only beside an access group.

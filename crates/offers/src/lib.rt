@@ -326,8 +326,7 @@ fn modulation_count(jm: Offer, heard_cm: &[u8]) -> u8
     if 1 < jm.items {
         return HOUSE_COUNT;
     }
-    let theirs = menus::group_of(heard_cm, items::MODULATION);
-    theirs.len() as u8
+    menus::group_size(heard_cm, items::MODULATION) as u8
 }
 
 // Makes the JM for a heard CM, and answers how many octets it has.

@@ -1,11 +1,10 @@
--- `offers::modulation_count` meets its contract: whether JM has a mode decides; a message that can be read has no group of more octets than a byte
+-- `offers::modulation_count` meets its contract: whether JM has a mode decides; no group of a message that can be read has more octets than a byte
 -- counts.
 -- Assumes nothing.
 use borrow.Author.Needs.{needs}
 use borrow.Author.Tests.{lt-ltb, le-ltb, eqb-true}
 use native.Mathlib.Omega.{arith}
 use Prim.Native.Nat.{_≤_}
-use mathlib.Core.Path.{ap}
 use denote.Ref.{now}
 use lib.ListN.{length}
 use Rattle.laws.specs.Logic.{when}
@@ -21,22 +20,22 @@ returns : tie.Need-returns
 unfolding when
 returns c = simp (lt-ltb _ _ (c .if1 .taken))
 
-group-of-requires : tie.Need-group-of-requires
-group-of-requires c κs = search needs
+group-size-requires : tie.Need-group-size-requires
+group-size-requires c κs = search needs
 
 -- as many octets as the message has at most
-few : (found : tie.After-group-of) → length (groupOf (now (found .before .before .before .before .args .heard-cm)) modulation) ≤ 64
+few : (found : tie.After-group-size) → length (groupOf (now (found .before .before .before .before .args .heard-cm)) modulation) ≤ 64
 few found =
     let start = found .before .before .before .before in
     let heard = now (start .args .heard-cm) in
     omega (arith, group-short heard modulation, accepted-short Reading heard (eqb-true _ 0 (start .pre)))
 
 cast-result : tie.Need-cast-result
-cast-result c = omega (arith, ap length (c .group-of .ensures), few c)
+cast-result c = omega (arith, c .group-size .ensures, few c)
 
 returns-2 : tie.Need-returns-2
 unfolding when
-returns-2 c = simp (le-ltb _ _ (c .before .if1 .left)) (omega (arith, ap length (c .group-of .ensures), few c))
+returns-2 c = simp (le-ltb _ _ (c .before .if1 .left)) (omega (arith, c .group-size .ensures, few c))
 
 pub modulation-count-spec : {M : Type 1} → statement M
-modulation-count-spec = tie.close (tie.spec returns group-of-requires cast-result returns-2)
+modulation-count-spec = tie.close (tie.spec returns group-size-requires cast-result returns-2)
