@@ -471,8 +471,8 @@ int32_t tailsprig_cm(struct tailsprig_record own, uint8_t function, const uint8_
  * order:
  *   10  the record is bad
  *    4, 5, 3  the heard CM cannot be read
- *    4  the JM would have more than 64 octets. Only a CM of 64 leads to that, all modulation behind its call function
- *       but for LAPM, and only where own.access is 1. Then there is no JM to send and no choice ('No JM' in Sessions)
+ *    4  the JM would have more than 64 octets, as for a CM of 64 that is all modulation behind its call function, where
+ *       own.access is 1. Then there is no JM to send and no choice ('No JM' in Sessions)
  *    6  out is too short, which TAILSPRIG_MENU_MOST octets never are
  *
  * How many modulation octets it has.  Three where an item from 1 to 12 is in common. Where none is, V.91 in common or
