@@ -1,19 +1,19 @@
 -- How many modulation octets a JM has: whether it has an item from 1 on is whether a mode is in common; and where it has none, item 0 is all that
 -- its group could say, so what is read of it, and chosen, stays.
 -- Assumes nothing.
-use Prim.Native.Nat.{ℕ, zero, suc, _<_, _≤_, _+_, _/_, _^_}
+use Prim.Native.Nat.{ℕ, zero, suc, _<_, _≤_, _+_}
 use native.Mathlib.Nat.{lt-of-le-of-lt}
 use native.Mathlib.Omega.{arith}
 use mathlib.Core.Path.{_≡_, refl, sym, ap, ap₂, _∙_}
 use mathlib.Core.Bool.{Bool, true, false}
-use mathlib.Core.List.{List, [], _∷_, _++_}
-use borrow.Author.Tests.{lt-ltb, le-ltb, ltb-true, ltb-false}
+use mathlib.Core.List.{List, [], _∷_}
+use borrow.Author.Tests.{le-ltb, ltb-true, ltb-false}
 use lib.Bits.{and-le-r}
-use lib.Dec.{ltb, eqb}
+use lib.Dec.{ltb}
 use lib.ListN.{length, drop, replicate}
 use Rattle.laws.specs.Logic.{when, both}
 use Rattle.laws.specs.Joined.{joined}
-use Rattle.laws.proofs.Logic.{either-way, clash}
+use Rattle.laws.proofs.Logic.{clash}
 use Rattle.octets.specs.Octets.{callFunctionTag, categoryOctet}
 use Rattle.items.specs.Items.{places, placeOf, hasItem, inSet, itemBits, modulation, noItems, modulationOctet}
 use Rattle.items.proofs.Bits.{set-within}
@@ -25,12 +25,12 @@ use Rattle.menus.specs.Offer.{Read, offers, refusal, offerOf, menuRead}
 use Rattle.menus.proofs.Reading.{menu-read}
 use Rattle.records.specs.declared.Record.{Record}
 use Rattle.records.specs.Record.{flag, inUse}
-use Rattle.offers.specs.Offering.{bit, sharedItems, jmPcm, jmOffer}
+use Rattle.offers.specs.Offering.{bit, sharedItems, jmPcm}
 use Rattle.offers.specs.Making.{modulationFrom, modulationGroup, houseCount, groupsOf, menuOf}
 use Rattle.offers.proofs.Making.{bit-small}
 use Rattle.offers.proofs.Meaning.{menu-readable, house-fits, read-back}
 use Rattle.offers.proofs.Saying.{with-item-0-small}
-use Rattle.choices.specs.Choosing.{Chosen, lowest, lowestFrom, chosenFrom, onRead, choiceFor, choiceOf}
+use Rattle.choices.specs.Choosing.{lowestFrom, chosenFrom, onRead, choiceOf}
 use Rattle.demands.specs.Joint.{AcceptedRecord, jmOf, jmSays, has, isAvailable, hasFor, NoModeInCommon}
 use Rattle.demands.specs.HeardCount.{jmOfThree, noModeGroup, CountsAsHeard, ChoosesAsBefore}
 use Rattle.demands.proofs.Shared.{has-read}

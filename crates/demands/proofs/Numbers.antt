@@ -19,7 +19,6 @@ use Rattle.octets.specs.declared.Purpose.the-variants.{Reading}
 use Rattle.octets.specs.Octets.{bad, category}
 use Rattle.octets.specs.Lists.{octetFault, firstFault, opens, mostOctets, listFault}
 use Rattle.octets.proofs.Lists.{accepted-short, before-none}
-use Rattle.refusals.specs.Lent.{count, put}
 use Rattle.refusals.proofs.Outcomes.{counted}
 use Rattle.menus.specs.Groups.{Looked, place, opensGroup, firstGroup, looked, groupOf}
 use Rattle.menus.specs.Groups as looking

@@ -11,7 +11,7 @@ use Rattle.laws.specs.Tests.{sameList}
 use Rattle.laws.proofs.Logic.{clash}
 use Rattle.octets.specs.declared.Kind.{Kind}
 use Rattle.octets.specs.declared.Kind.the-variants.{Ci, Menu}
-use Rattle.octets.specs.declared.Purpose.the-variants.{Reading, Writing}
+use Rattle.octets.specs.declared.Purpose.the-variants.{Writing}
 use Rattle.octets.specs.Lists.{firstFault, listFault, untilCategory}
 use Rattle.refusals.specs.Refusals.{before}
 use Rattle.refusals.specs.Lent.{count, roomFault, put}
