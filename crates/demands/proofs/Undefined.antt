@@ -7,6 +7,7 @@ use native.Mathlib.Omega.{arith}
 use mathlib.Core.Path.{_≡_, refl, sym, ap, ap₂, subst, _∙_}
 use mathlib.Core.Bool.{Bool, true, false, not}
 use mathlib.Core.List.{List, [], _∷_, _++_, append-assoc}
+use mathlib.Core.Logic.{_⊎_, inl, inr}
 use borrow.Author.Tests.{not-true, lt-ltb, eqb-true}
 use lib.Dec.{ltb, eqb}
 use lib.ListN.{length, take, drop, getD, replicate, length-append, List·getD-append}
@@ -184,14 +185,16 @@ module _ (front rest : List ℕ) (octet : ℕ) (extensions : List ℕ) (ends : g
       (ap itemsOf (group-kept modulation (not-5 .0))) (ap optionsIn (group-kept pcmTag (not-7 .0))) (ap optionsIn (group-kept protocol (not-10 .0)))
       (ap optionsIn access-kept) (ap stands access-kept)
 
--- a group that grew, if so behind its third octet
-record Grown (short long : List ℕ) : Type 0 where
+-- a modulation group that grew by surplus octets behind its third, or did not
+record Grown (octet : ℕ) (surplus short long : List ℕ) : Type 0 where
   more : ℕ
   counted : length long ≡ length short + more
+  all : (more ≡ length surplus) ⊎ (more ≡ 0)
+  elsewhere : (tag octet ≡ modulation → ⊥) → more ≡ 0
   past : 0 < more → 2 < length short
 
-not-grown : (group : List ℕ) → Grown group group
-not-grown group = record { more = 0; counted = omega arith; past = λ some. absurd (not-suc-le-zero some) }
+not-grown : (octet : ℕ) (surplus group : List ℕ) → Grown octet surplus group group
+not-grown octet surplus group = record { more = 0; counted = omega arith; all = inr refl; elsewhere = λ _. refl; past = λ some. absurd (not-suc-le-zero some) }
 
 -- extension octets past those defined
 module _ (front rest : List ℕ) (octet : ℕ) (extensions more : List ℕ) (ends : groupEnds rest 0 ≡ true) (is-group : IsGroup octet extensions) (extends : every extension more ≡ true) (past : tag octet ≡ modulation → 2 ≤ length extensions) where
@@ -223,7 +226,7 @@ module _ (front rest : List ℕ) (octet : ℕ) (extensions more : List ℕ) (end
       ap (listFault Reading) apart ∙ still-read c (l ++ (octet ∷ extensions)) more rest (ap (listFault Reading) whole ∙ read) (extensions-fine Reading more extends) (subst (λ (t : List ℕ). length t ≤ 64) apart short)
 
   -- the first modulation group is the same, or longer behind its third octet
-  surplus-grown : Grown (groupOf (front ++ ((octet ∷ extensions) ++ rest)) modulation) (groupOf (front ++ ((octet ∷ (extensions ++ more)) ++ rest)) modulation)
+  surplus-grown : Grown octet more (groupOf (front ++ ((octet ∷ extensions) ++ rest)) modulation) (groupOf (front ++ ((octet ∷ (extensions ++ more)) ++ rest)) modulation)
   unfolding when
   surplus-grown =
       let short = group-from (front ++ ((octet ∷ extensions) ++ rest)) modulation ∙ between (λ (l : List ℕ). l) modulation front rest ends octet extensions is-group in
@@ -231,12 +234,12 @@ module _ (front rest : List ℕ) (octet : ℕ) (extensions more : List ℕ) (end
       rw (short, long) (go (groupFrom modulation front) (opensGroup modulation octet) refl)
     where
       go : (first : List ℕ) (test : Bool) → opensGroup modulation octet ≡ test
-          → Grown (orElse first (orElse (when test (octet ∷ extensions) []) (groupFrom modulation rest))) (orElse first (orElse (when test (octet ∷ (extensions ++ more)) []) (groupFrom modulation rest)))
+          → Grown octet more (orElse first (orElse (when test (octet ∷ extensions) []) (groupFrom modulation rest))) (orElse first (orElse (when test (octet ∷ (extensions ++ more)) []) (groupFrom modulation rest)))
       go [] true opened =
-          let two = past (eqb-true _ _ (both-true _ _ opened .1)) in
-          record { more = length more; counted = omega (arith, length-append extensions more); past = λ _. omega (arith, two) }
-      go [] false opened = not-grown (groupFrom modulation rest)
-      go (b ∷ first) test opened = not-grown (b ∷ first)
+          let here : tag octet ≡ modulation = eqb-true _ _ (both-true _ _ opened .1) in
+          record { more = length more; counted = omega (arith, length-append extensions more); all = inl refl; elsewhere = λ other. absurd (other here); past = λ _. omega (arith, past here) }
+      go [] false opened = not-grown octet more (groupFrom modulation rest)
+      go (b ∷ first) test opened = not-grown octet more (b ∷ first)
 
 -- by what was put in
 unknown-read : (front rest x : List ℕ) → 0 < length front → listFault Reading (front ++ rest) ≡ 0 → firstFault Reading x ≡ 0 → length (front ++ (x ++ rest)) ≤ 64 → listFault Reading (front ++ (x ++ rest)) ≡ 0
@@ -254,16 +257,18 @@ module _ (menu longer : List ℕ) (read : listFault Reading menu ≡ 0) (short :
       (ap offerOf (g .becomes) ∙ unknown-offer (g .front) (g .rest) (g .octet) (g .extensions) (g .ends) (g .is) (g .unknown) (g .behind) ∙ ap offerOf (sym (g .was)))
       (ap (λ (m : List ℕ). length (groupOf m modulation)) (g .becomes) ∙ ap length (group-kept (g .front) (g .rest) (g .octet) (g .extensions) (g .ends) (g .is) (g .unknown) modulation not-5) ∙ ap (λ (m : List ℕ). length (groupOf m modulation)) (sym (g .was)))
 
-  pub surplus-octets-change-only-the-count : Surplus menu longer → ChangesOnlyTheCount menu longer
+  pub surplus-octets-change-only-the-count : (surplus : Surplus menu longer) → ChangesOnlyTheCount menu longer surplus
   surplus-octets-change-only-the-count s =
       let longer-read = ap (listFault Reading) (s .becomes) ∙ surplus-read (s .front) (s .rest) (s .octet) (s .extensions) (s .more) (s .ends) (s .is) (s .extend) (s .past) (s .front) (ap (listFault Reading) (sym (s .was)) ∙ read) (subst (λ (t : List ℕ). length t ≤ 64) (s .becomes) short) in
       let same = ap offerOf (s .becomes) ∙ surplus-offer (s .front) (s .rest) (s .octet) (s .extensions) (s .more) (s .ends) (s .is) (s .extend) (s .past) ∙ ap offerOf (sym (s .was)) in
-      let grown : Grown (groupOf menu modulation) (groupOf longer modulation) =
+      let grown : Grown (s .octet) (s .more) (groupOf menu modulation) (groupOf longer modulation) =
       rw (s .was, s .becomes) (surplus-grown (s .front) (s .rest) (s .octet) (s .extensions) (s .more) (s .ends) (s .is) (s .extend) (s .past)) in
       record {
         reading = changes-no-reading menu longer read longer-read same;
         more = grown .more;
         counted = grown .counted;
+        all = grown .all;
+        elsewhere = grown .elsewhere;
         same = λ own out none. jm-same menu longer read longer-read same own out (as-many menu longer read longer-read same own (omega (arith, grown .counted, none)));
         common = λ own out i low high shared. jm-same menu longer read longer-read same own out (common-count menu longer read longer-read same own i low high shared);
         alone = λ own none. jm-longer menu longer read longer-read same own none (grown .more) (grown .counted) (grown .past);

@@ -4,6 +4,7 @@ use Prim.Native.Nat.{ℕ, _+_, _<_, _≤_}
 use mathlib.Core.Path.{_≡_}
 use mathlib.Core.Bool.{Bool, true, not}
 use mathlib.Core.List.{List, [], _∷_, _++_}
+use mathlib.Core.Logic.{_⊎_}
 use lib.Dec.{eqb}
 use lib.ListN.{length, take, replicate}
 use Rattle.laws.specs.Logic.{both}
@@ -72,11 +73,13 @@ pub record LongerBy (more : ℕ) (jm longer : List ℕ) : Type 0 where
   pub becomes : longer ≡ (take 1 jm ++ groupOf jm modulation) ++ (replicate more 0x10 ++ behind)
 
 -- document 02, Req 03: "JM holds the same number of modulation octets as CM", so of a JM the count may change, and whether it passes 64 octets
-pub record ChangesOnlyTheCount (menu longer : List ℕ) : Type 0 where
+pub record ChangesOnlyTheCount (menu longer : List ℕ) (surplus : Surplus menu longer) : Type 0 where
   pub reading : ChangesNoReading menu longer
-  -- the first modulation group has so many octets more
+  -- the first modulation group has so many octets more: all that were put in, or none, and none where they were put into a group of another tag
   pub more : ℕ
   pub counted : length (groupOf longer modulation) ≡ length (groupOf menu modulation) + more
+  pub all : (more ≡ length (surplus .more)) ⊎ (more ≡ 0)
+  pub elsewhere : (tag (surplus .octet) ≡ modulation → ⊥) → more ≡ 0
   -- where they are none, and "With a mode in common", JM is the same
   pub same : (own : Record) (out : List ℕ) → more ≡ 0 → madeJm own longer out ≡ madeJm own menu out
   pub common : (own : Record) (out : List ℕ) (i : ℕ) → 0 < i → i < 13 → both (hasFor own (offerOf menu .function) i) (has menu i) ≡ true → madeJm own longer out ≡ madeJm own menu out
