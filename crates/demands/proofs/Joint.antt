@@ -22,11 +22,11 @@ use Rattle.menus.proofs.Reading.{menu-read}
 use Rattle.records.specs.declared.Modes.{Modes}
 use Rattle.records.specs.declared.Record.{Record}
 use Rattle.records.specs.Record.{flag, noModes, modesAt, inUse}
-use Rattle.offers.specs.Offering.{bit, withItem0, accessOptions, cmAccess, cmOffer, withItem1, sharedItems, jmPcm, jmOffer}
+use Rattle.offers.specs.Offering.{bit, withItem0, accessOptions, cmAccess, cmOffer, withItem1, sharedItems, jmPcm, jmOffer, withItems}
 use Rattle.menus.specs.Pcm.{analogue, digital, v91, paired}
 use Rattle.offers.specs.Making.{houseCount, menuOf, modulationCount}
 use Rattle.offers.proofs.Making.{modulation-length, bit-small, size-fits}
-use Rattle.offers.proofs.Meaning.{Sayable, menu-readable, menu-writable, withItems, modulation-found, read-with, read-back, jm-items}
+use Rattle.offers.proofs.Meaning.{Sayable, menu-readable, menu-writable, modulation-found, read-with, read-back, jm-items}
 use Rattle.offers.proofs.Fields.{other-group, offer-kept, with-readable, with-writable}
 use Rattle.offers.proofs.Saying.{cm-sayable, jm-sayable}
 use Rattle.demands.specs.Joint.{AcceptedRecord, cmOf, jmOf, jmSays, has, filledIn, isAvailable, hasFor, pcmFor, saysCellular, SaysWhatTheRecordHas, HoldsWhatBothHave, HoldsWhatBothRecordsHave, IsReadBack}

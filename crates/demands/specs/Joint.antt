@@ -17,7 +17,7 @@ use Rattle.menus.specs.Offer.{stands, offerOf, offers, menuRead}
 use Rattle.records.specs.declared.Record.{Record}
 use Rattle.records.specs.declared.Modes.{Modes}
 use Rattle.records.specs.Record.{flag, noModes, badRecord}
-use Rattle.offers.specs.Offering.{bit, cmAccess, cmOffer, jmOffer}
+use Rattle.offers.specs.Offering.{bit, cmAccess, cmOffer, jmOffer, withItems}
 use Rattle.menus.specs.Pcm.{analogue, digital, v91}
 use Rattle.offers.specs.Making.{withField, jmMenu}
 
@@ -59,14 +59,7 @@ NoModeInCommon own heard = (i : ℕ) → 0 < i → i < 13 → both (hasFor own (
 
 -- what a JM says: what it offers, "and item 0 still goes with PCM if a group is there"
 abbrev pub jmSays : Record → List ℕ → Offer
-jmSays own heard = let jm = jmOffer own (offerOf heard) in record {
-  function = jm .function;
-  items = when (stands (groupOf (jmOf own heard) modulation)) (jm .items) 0;
-  pcm = jm .pcm;
-  lapm = jm .lapm;
-  access = jm .access;
-  «access_options» = jm .«access_options»;
-}
+jmSays own heard = let jm = jmOffer own (offerOf heard) in withItems jm (when (stands (groupOf (jmOf own heard) modulation)) (jm .items) 0)
 
 -- "exactly the modes that both ends have for the call function": items 1 to 12, and the pairings of PCM
 pub record HoldsWhatBothHave (own : Record) (heard : List ℕ) : Type 0 where

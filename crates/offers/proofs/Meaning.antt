@@ -26,6 +26,7 @@ use Rattle.menus.specs.declared.Offer.{Offer}
 use Rattle.menus.specs.Groups.{groupOf, optionsIn}
 use Rattle.menus.specs.Offer.{pcmTag, protocol, lapmOption, access, stands, offerOf}
 use Rattle.menus.proofs.Joined.{orElse, group-from}
+use Rattle.offers.specs.Offering.{withItems}
 use Rattle.offers.specs.Making.{oneOctet, modulationFrom, modulationGroup, houseCount, groupsOf, menuOf, modulationCount}
 use Rattle.offers.proofs.Making.{menu-short}
 use Rattle.offers.proofs.Groups.{Groups, one-group, one-of-tag, modulation-group, modulation-of-tag, group-found, or-nothing}
@@ -144,10 +145,6 @@ chosen-alone false n h = sym (h refl)
 pub same-offer : (f g i j p q o r : ℕ) (l m a b : Bool) → f ≡ g → i ≡ j → p ≡ q → l ≡ m → a ≡ b → o ≡ r
     → _≡_ {A = Offer} (record { function = f; items = i; pcm = p; lapm = l; access = a; «access_options» = o }) (record { function = g; items = j; pcm = q; lapm = m; access = b; «access_options» = r })
 same-offer f g i j p q o r l m a b e1 e2 e3 e4 e5 e6 = cc
-
--- an offer with other items
-abbrev pub withItems : Offer → ℕ → Offer
-withItems offer items = record { function = offer .function; items = items; pcm = offer .pcm; lapm = offer .lapm; access = offer .access; «access_options» = offer .«access_options» }
 
 -- a menu is read as the offer that it says, with the items that stand in so many octets
 module _ (count : ℕ) (offer : Offer) where

@@ -74,3 +74,7 @@ jmOfferOf own cm modes = record {
 -- the modes of a function that is not available are none
 abbrev pub jmOffer : Record → Offer → Offer
 jmOffer own cm = jmOfferOf own cm (inUse own (cm .function))
+
+-- an offer with other items
+abbrev pub withItems : Offer → ℕ → Offer
+withItems offer items = record { function = offer .function; items = items; pcm = offer .pcm; lapm = offer .lapm; access = offer .access; «access_options» = offer .«access_options» }
