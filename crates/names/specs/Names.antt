@@ -90,6 +90,7 @@ names =
     entry "V.22" otherMode 4 ∷
     entry "home" part 3 ∷
     entry "wants" part 4 ∷
+    entry "sends" part 8 ∷
     entry "LAPM" wanted 0 ∷
     entry "access" wanted 1 ∷
     entry "cellular" quality 2 ∷

@@ -37,7 +37,7 @@ pub struct Meaning {
 }
 
 // How many bytes the table has, and each of its rows; where in a row the length, the kind and the number stand.
-const TABLE: usize = 836;
+const TABLE: usize = 858;
 
 const ROW: usize = 22;
 
@@ -83,6 +83,7 @@ fn table() -> [u8; TABLE]
  V.22             \x04\x05\x04
  home             \x04\x06\x03
  wants            \x05\x06\x04
+ sends            \x05\x06\x08
  LAPM             \x04\x07\x00
  access           \x06\x07\x01
  cellular         \x08\x08\x02

@@ -3,7 +3,7 @@
 use mathlib.Core.Path.{ap}
 use lib.ListN.{replicate}
 use Rattle.plans.specs.declared.Answer.{Answer}
-use Rattle.plans.specs.Reading.{readText, marked, blocksIn}
+use Rattle.plans.specs.Reading.{readText, marked, blocksIn, cmIn}
 use Rattle.plans.specs.Good.{ReadsAgain}
 use Rattle.plans.proofs.Kept.{plans-are-good}
 use Rattle.plans.proofs.Marks.{marked-are-marks, zeros-are-marks, blocks-are-octets}
@@ -11,7 +11,8 @@ use Rattle.plans.proofs.ReadBack.{plain-reads-back}
 
 pub reads-again : ReadsAgain
 reads-again text right =
+    let good = plans-are-good text right in
     let back =
-    plain-reads-back (readText text .plan) (blocksIn text) (marked text (replicate 18000 0))
-    (plans-are-good text right) (blocks-are-octets text) (marked-are-marks text (replicate 18000 0) zeros-are-marks) in
-    (ap (λ (answer : Answer). answer .plan) (back .0), back .1, back .2)
+    plain-reads-back (readText text .plan) (cmIn text) (blocksIn text) (marked text (replicate 18000 0))
+    (good .0) (good .1) (blocks-are-octets text) (marked-are-marks text (replicate 18000 0) zeros-are-marks) in
+    (ap (λ (answer : Answer). answer .plan) (back .0), back .1, back .2, back .3)

@@ -14,7 +14,7 @@ use Rattle.names.specs.declared.Meaning.{Meaning}
 use Rattle.names.specs.Names.{end, line, function, mode, otherMode, part, wanted, quality, named}
 use Rattle.plans.specs.declared.Reading.{Reading}
 use Rattle.plans.specs.Text.{number, octet}
-use Rattle.plans.specs.Reading.{beginning, inEnd, afterHome, afterWants, afterCall, afterTe, afterDamaged, firstBit, bits, done, firstOctet, octets, mistaken, going, say, nameFunction, nameHome, nameMode, endWord, isSaid, beginNamed, behindName, firstWord, nameCall, functionWord, planning, nameWord, teWord, bitWord, octetWord, readWord, recordOf, recordMistake, withHome, finishEnd, finishLine, noPlan, answer, missing, withDefault, finished, modeFirst, twice, home, setAt, store, firstOf}
+use Rattle.plans.specs.Reading.{beginning, inEnd, afterHome, afterWants, afterCall, afterTe, afterDamaged, firstBit, bits, done, firstOctet, octets, mistaken, going, say, nameFunction, nameHome, nameMode, partWord, endWord, isSaid, beginNamed, behindName, firstWord, nameCall, functionWord, planning, nameWord, teWord, bitWord, octetWord, readWord, recordOf, recordMistake, withHome, finishEnd, finishLine, noPlan, answer, missing, withDefault, finished, modeFirst, twice, home, setAt, store, firstOf}
 use Rattle.plans.specs.Inner.{lacking}
 
 -- a word that names something: the kind of that decides too
@@ -55,7 +55,7 @@ module _ (r : Reading) (m : Meaning) (small : r .context < 256) where
   said (inl is-case) = let w = at afterWants wanted (omega arith) is-case in simp (w .0, w .1)
   said (inr is-case) = let w = at inEnd quality (omega arith) is-case in simp (w .0, w .1)
 
-  pub part-in-end : case ≡ 1538 → nameWord r m ≡ going r n
+  pub part-in-end : case ≡ 1538 → nameWord r m ≡ partWord r n
   unfolding nameWord endWord when
   part-in-end is-case = let w = at inEnd part (omega arith) is-case in simp (w .0, w .1)
 

@@ -41,15 +41,15 @@ module _ (plan : Plan) (n : ℕ) (name : List ℕ) (is-known : Known name end n)
       (spaced 3 refl (name-run (reading plan (noLine 0) afterDamaged) (within firstBit) d name end n is-known refl refl refl refl refl)))
 
   bit-lines : Lines plan front (within firstBit) (within bits)
-  unfolding bytes wordLength finishLine when either
-  bit-lines = record { stops = refl; begins = front-run; ends = (noLine n, refl) }
+  unfolding finishLine when either
+  bit-lines = record { begins = front-run; ends = (noLine n, refl) }
 
   -- a bit
   abbrev with : ℕ → Found → Found
-  with time d = found (set (d .damaged) (place + time) 1) (d .octets)
+  with time d = found (set (d .damaged) (place + time) 1) (d .octets) (d .whose)
 
   time-run : (context time : ℕ) (d : Found) → eqb context 6 ≡ false → atBits (within context) ≡ true → atOctets (within context) ≡ false → time < 9000 → Run (within context) d (32 ∷ decimal time) (within bits) (with time d)
-  unfolding readWord when
+  unfolding readWord when both
   time-run context time d no-te at-bits no-octets small =
       let low : time < 100000 = omega (arith, small) in
       let is-read = decimal-read time low in
@@ -58,7 +58,8 @@ module _ (plan : Plan) (n : ℕ) (name : List ℕ) (is-known : Known name end n)
       (simp (no-te, at-bits, is-read, le-ltb 8999 time (omega (arith, small))))
       refl
       (simp (at-bits, is-read, there))
-      (simp (no-octets, append-nil)))
+      (simp (no-octets, append-nil))
+      refl)
 
   bit-run : (count time : ℕ) (d : Found) (r : Reading) → Ready plan (within bits) count r → time < 9000 → Run r d (bitText front count time) (within bits) (with time d)
   unfolding either
@@ -66,16 +67,16 @@ module _ (plan : Plan) (n : ℕ) (name : List ℕ) (is-known : Known name end n)
       entry-run bit-lines count (decimal time) d (with time d) r ready (time-run firstBit time d refl refl refl small) (time-run bits time d refl refl refl small)
 
   pub bits-stop : (list : List ℕ) (count time : ℕ) → Stops (bitsText front count time list)
-  unfolding bitsText wordLength
+  unfolding bitsText wordLength bytes when either
   bits-stop [] count time = refl
   bits-stop (b ∷ list) count time =
       stops-joined (when (eqb b 1) (bitText front count time) []) (bitsText front (count + when (eqb b 1) 1 0) (time + 1) list)
-      (either-way Stops (eqb b 1) (bitText front count time) [] (λ _. entry-stops bit-lines count (decimal time)) (λ _. refl))
+      (either-way Stops (eqb b 1) (bitText front count time) [] (λ _. entry-stops front refl count (decimal time)) (λ _. refl))
       (bits-stop list (count + when (eqb b 1) 1 0) (time + 1))
 
   -- bits from a time on
   abbrev withBits : ℕ → List ℕ → Found → Found
-  withBits at list d = found (marking (d .damaged) at list) (d .octets)
+  withBits at list d = found (marking (d .damaged) at list) (d .octets) (d .whose)
 
   -- what is read behind some bits
   abbrev Later : ℕ → ℕ → List ℕ → Found → Reading → Type 0
@@ -91,7 +92,7 @@ module _ (plan : Plan) (n : ℕ) (name : List ℕ) (is-known : Known name end n)
       (t : Bool) (count time : ℕ) (list : List ℕ) (d : Found) (r : Reading) → Ready plan (within bits) count r → time < 9000
       → ((d′ : Found) (r′ : Reading) → Ready plan (within bits) (count + when t 1 0) r′ → Later (count + when t 1 0) (time + 1) list d′ r′)
       → (r′ : Reading) × Ends plan r′ × Run r d (when t (bitText front count time) [] ++ bitsText front (count + when t 1 0) (time + 1) list) r′
-      (found (marking (when t (set (d .damaged) (place + time) 1) (d .damaged)) (place + time + 1) list) (d .octets))
+      (found (marking (when t (set (d .damaged) (place + time) 1) (d .damaged)) (place + time + 1) list) (d .octets) (d .whose))
   unfolding when
   one-bit true count time list d r ready small on =
       let next = on (with time d) (within bits) (ready-on bit-lines (count + 1)) in

@@ -18,7 +18,7 @@ use Rattle.names.specs.Names.{names, namedBy, namesOf, function, part, wanted, 
 use Rattle.plans.specs.declared.Plan.{Plan}
 use Rattle.plans.specs.declared.Reading.{Reading}
 use Rattle.plans.specs.Text.{wordLength}
-use Rattle.plans.specs.Reading.{inEnd, afterHome, afterWants, planned, home, place, setAt, added, say, nameHome, endWord, functionWord, nameWord}
+use Rattle.plans.specs.Reading.{inEnd, afterHome, afterWants, planned, home, place, setAt, added, say, nameHome, partWord, endWord, functionWord, nameWord}
 use Rattle.plans.specs.Plain.{functionName, wantsText, endText}
 use Rattle.plans.specs.Good.{GoodEnd}
 use Rattle.plans.proofs.Runs.{Stops, stops-joined, Found, Run, nothing, spaced, comma, join}
@@ -68,14 +68,14 @@ unfolding bytes wordLength when either
 comma-stops said = either-way Stops (ltb 0 (said / 4 % 4)) (bytes ",") [] (λ _. refl) (λ _. refl)
 
 -- a line whose functions are said
-module _ (end first : ℕ) (d : Found) where
+module _ (called end first : ℕ) (d : Found) where
   abbrev saying : ℕ → List ℕ → ℕ → Reading
-  saying last sets context = reading (planned sets 0 0) (lineOf end last first) context
+  saying last sets context = reading (planned sets called 0) (lineOf end last first) context
 
   home-run :
       (last f : ℕ) (sets : List ℕ) → 0 < f → f < 7 → getD sets (place end home) 0 ≡ 0
       → Run (saying last sets inEnd) d (bytes " home" ++ functionName f) (saying 0 (set sets (place end home) f) inEnd) d
-  unfolding bytes nameWord endWord functionWord nameHome when either
+  unfolding bytes nameWord endWord partWord functionWord nameHome when either
   home-run last f sets some h is-new =
       let name = known-function f some h in
       let now = saying 0 (set sets (place end home) f) inEnd in
@@ -98,7 +98,7 @@ module _ (end first : ℕ) (d : Found) where
     said-read context n numbers not-in = simp (set-here sets sixteen end 0 numbers, not-in, set-set)
 
     wants-run : (word : List ℕ) (n numbers : ℕ) → Known word wanted n → inSet numbers n ≡ false → Run (now numbers) d (44 ∷ 32 ∷ bytes "wants" ++ (32 ∷ word)) (now (added numbers n)) d
-    unfolding bytes wordLength nameWord endWord when either
+    unfolding bytes wordLength nameWord endWord partWord when either
     wants-run word n numbers is-known not-in =
         let between = saying 0 (with numbers) afterWants in
         comma refl (spaced 1 refl
@@ -146,8 +146,8 @@ unfolding bytes wordLength when either
 home-stops f = refl
 
 -- all that is said of an end of which nothing was said before
-module _ (plan : Plan) (end : ℕ) (good : GoodEnd plan end) (d : Found) (sets : List ℕ) (sixteen : length sets ≡ 16) (new : (k : ℕ) → k < 8 → getD sets (place end k) 0 ≡ 0) (r : Reading) (name : List ℕ) (begun : Run r d name (reading (planned sets 0 0) (noLine end) inEnd) d) where
-  pub end-run : (first : ℕ) × Run r d (endText name plan end) (on end 0 first (withEnd plan end sets)) d
+module _ (plan : Plan) (called end : ℕ) (good : GoodEnd plan end) (d : Found) (sets : List ℕ) (sixteen : length sets ≡ 16) (new : (k : ℕ) → k < 8 → getD sets (place end k) 0 ≡ 0) (r : Reading) (name : List ℕ) (begun : Run r d name (reading (planned sets called 0) (noLine end) inEnd) d) where
+  pub end-run : (first : ℕ) × Run r d (endText name plan end) (on called end 0 first (withEnd plan end sets)) d
   end-run =
       let f = setAt plan end home in
       let is-one = has-home plan end good in
@@ -158,12 +158,12 @@ module _ (plan : Plan) (end : ℕ) (good : GoodEnd plan end) (d : Found) (sets :
       let still-16 : length homed ≡ 16 = length-set functions (place end home) f ∙ at-home .0 in
       let none-said : getD homed (place end 0) 0 ≡ 0 = set-there functions (at-home .0) end home f 0 (lit< tt) (lit< tt) (λ e. omega (arith, e)) ∙ at-first .1 ∙ new 0 (lit< tt) in
       let same : set homed (place end 0) 0 ≡ homed = ap (set homed (place end 0)) (sym none-said) ∙ set-getD homed (place end 0) 0 in
-      let of-functions = functions-run end d plan (good .nothing-else) (good .sets) 6 1 0 0 sets (lit< tt) (lit≤ tt) sixteen (λ i _ l. new i (omega (arith, l))) in
-      let of-home = home-run end (of-functions .1) d (of-functions .0) f functions (is-one .0) (omega (arith, good .home-function)) (at-home .1 ∙ new home (lit< tt)) in
-      let of-rest = said-run end (of-functions .1) d homed still-16 (setAt plan end 0) (good .said) in (
+      let of-functions = functions-run called end d plan (good .nothing-else) (good .sets) 6 1 0 0 sets (lit< tt) (lit≤ tt) sixteen (λ i _ l. new i (omega (arith, l))) in
+      let of-home = home-run called end (of-functions .1) d (of-functions .0) f functions (is-one .0) (omega (arith, good .home-function)) (at-home .1 ∙ new home (lit< tt)) in
+      let of-rest = said-run called end (of-functions .1) d homed still-16 (setAt plan end 0) (good .said) in (
         of-functions .1,
         join (join (join begun (functions-stop plan end 1 6) (of-functions .2))
             (home-stops (f % 8)) (rw (is-one .1) of-home))
             (wants-stop (setAt plan end 0))
-            (subst (λ (now : List ℕ). Run (on end 0 (of-functions .1) now) d (wantsText (setAt plan end 0)) (on end 0 (of-functions .1) (withEnd plan end sets)) d) same of-rest),
+            (subst (λ (now : List ℕ). Run (on called end 0 (of-functions .1) now) d (wantsText (setAt plan end 0)) (on called end 0 (of-functions .1) (withEnd plan end sets)) d) same of-rest),
       )

@@ -13,7 +13,7 @@ pub mod Accepted
 pub mod EndRuns
 pub mod LineRuns
 pub mod ListRuns
-pub mod BlockRuns
+pub mod OctetRuns
 pub mod DamageRuns
 pub mod ReadBack
 pub mod Meant

@@ -1,9 +1,9 @@
--- The lines of a plain text, read one by one: the ends, the call, Te.
+-- The lines of a plain text, read one by one: the ends, a stranger, the call, Te.
 -- Assumes nothing.
 use Prim.Native.Nat.{ℕ, _<_, _%_}
 use mathlib.Core.Path.{_≡_, refl, sym, subst}
 use mathlib.Core.Bool.{true, false}
-use mathlib.Core.List.{List, _++_, append-assoc, append-nil}
+use mathlib.Core.List.{List, _++_, append-nil}
 use borrow.Author.Tests.{lt-ltb}
 use lib.Dec.{ltb}
 use lib.ListN.{replicate}
@@ -11,18 +11,19 @@ use Rattle.laws.specs.Logic.{when, both, either}
 use Rattle.laws.specs.Tests.{every, sameList}
 use Rattle.laws.proofs.Logic.{both-neither}
 use Rattle.names.specs.Bytes.{bytes}
-use Rattle.names.specs.Names.{names, namedBy, end, line, function}
+use Rattle.names.specs.Names.{names, namedBy, end, line, function, part}
 use Rattle.steps.specs.Session.{isTe}
 use Rattle.plans.specs.declared.Plan.{Plan}
 use Rattle.plans.specs.declared.Reading.{Reading}
 use Rattle.plans.specs.Text.{wordLength}
-use Rattle.plans.specs.Reading.{beginning, inEnd, afterCall, afterTe, done, planned, home, setAt, isSaid, behindName, firstWord, lacksCall, planning, functionWord, nameWord, readWord, recordOf, withHome, finishEnd, finishLine}
-use Rattle.plans.specs.Plain.{functionName, decimal, callText}
+use Rattle.plans.specs.Reading.{beginning, inEnd, afterCall, afterTe, done, firstOctet, stranger, planned, home, setAt, lacksCall, planning, partWord, endWord, isSaid, behindName, firstWord, functionWord, nameWord, readWord, recordOf, withHome, finishEnd, finishLine, noPlan, fresh}
+use Rattle.plans.specs.Plain.{functionName, decimal, teText}
 use Rattle.plans.specs.Good.{GoodEnd}
-use Rattle.plans.proofs.Runs.{Stops, Found, Run, nothing, spaced, fed, join, word-run}
+use Rattle.plans.proofs.Runs.{Found, Run, nothing, spaced, fed, join, word-run}
 use Rattle.plans.proofs.Decimals.{decimal-read, decimal-spelled, decimal-some}
 use Rattle.plans.proofs.Words.{Known, known, Line, lineOf, noLine, reading, name-run}
 use Rattle.plans.proofs.NameRuns.{names-stop}
+use Rattle.plans.proofs.ListRuns.{Ends}
 use Rattle.plans.proofs.FunctionRuns.{known-function, on}
 use Rattle.plans.proofs.Accepted.{no-mistake, has-home}
 
@@ -50,22 +51,30 @@ pub blocks-known : Known (bytes "blocks") line 8
 unfolding names bytes every namedBy sameList when both either
 blocks-known = known (bytes "blocks") line 8 tt
 
--- no function is called yet, or one that the caller has
-lacks-none : (sets : List ℕ) → lacksCall (planned sets 0 0) ≡ false
+sends-known : Known (bytes "sends") part 8
+unfolding names bytes every namedBy sameList when both either
+sends-known = known (bytes "sends") part 8 tt
+
+-- no function is called yet, or one that the caller has, or nothing is said of the caller
+pub lacks-none : (sets : List ℕ) → lacksCall (planned sets 0 0) ≡ false
 unfolding lacksCall both
 lacks-none sets = both-neither (ltb 0 (setAt (planned sets 0 0) 1 home))
 
-lacks-not : (plan : Plan) → setAt plan 1 (plan .function) % 2 ≡ 1 → lacksCall plan ≡ false
+pub lacks-not : (plan : Plan) → setAt plan 1 (plan .function) % 2 ≡ 1 → lacksCall plan ≡ false
 unfolding lacksCall
 lacks-not plan is-had = simp (is-had, both-neither)
 
+pub lacks-unsaid : (plan : Plan) → setAt plan 1 home ≡ 0 → lacksCall plan ≡ false
+unfolding lacksCall both
+lacks-unsaid plan none-said = simp none-said
+
 -- an end's line is at its end
 pub end-finished :
-    (plan : Plan) (end first : ℕ) (sets : List ℕ) → GoodEnd plan end → recordOf (planned sets 0 0) end ≡ recordOf plan end → setAt (planned sets 0 0) end home ≡ setAt plan end home
-    → finishLine (on end 0 first sets) ≡ reading (planned sets 0 0) (lineOf end 0 first) beginning
+    (plan : Plan) (called end first : ℕ) (sets : List ℕ) → GoodEnd plan end → lacksCall (planned sets called 0) ≡ false → recordOf (planned sets called 0) end ≡ recordOf plan end
+    → setAt (planned sets called 0) end home ≡ setAt plan end home → finishLine (on called end 0 first sets) ≡ reading (planned sets called 0) (lineOf end 0 first) beginning
 unfolding finishLine finishEnd withHome planning when
-end-finished plan end first sets good same-record same-home =
-    simp (same-home, lt-ltb 0 (setAt plan end home) (has-home plan end good .0), same-record, no-mistake (recordOf plan end) (good .accepted), lacks-none sets)
+end-finished plan called end first sets good lacks same-record same-home =
+    simp (same-home, lt-ltb 0 (setAt plan end home) (has-home plan end good .0), same-record, no-mistake (recordOf plan end) (good .accepted), lacks)
 
 module _ (plan : Plan) (before : Line) (d : Found) where
   -- the first word of a line
@@ -97,39 +106,39 @@ module _ (plan : Plan) (before : Line) (d : Found) where
     unfolding bytes wordLength when either
     te-begins r′ text is-new run = fed is-fed refl (join {a = bytes "Te"} {b = replicate 8 32 ++ text} (line-begins (bytes "Te") 6 te-known is-new) refl (spaced 8 refl run))
 
--- the function called, and Te
-module _ (plan : Plan) (is-called : setAt plan 1 (plan .function) % 2 ≡ 1) (d : Found) where
+-- a stranger's line, up to the octets of its CM
+pub sends-begins : (d : Found) → Run fresh d (bytes "caller    sends") (reading (planned (replicate 16 0) stranger 0) (noLine 1) firstOctet) d
+unfolding bytes wordLength isSaid nameWord endWord partWord planning lacksCall when both either
+sends-begins d =
+    join {a = bytes "caller   "} {b = replicate 1 32 ++ bytes "sends"} (caller-begins noPlan (noLine 0) d refl) refl
+    (spaced 1 refl (name-run (reading noPlan (noLine 1) inEnd) (reading (planned (replicate 16 0) stranger 0) (noLine 1) firstOctet) d (bytes "sends") part 8 sends-known refl refl refl refl refl))
+
+module _ (plan : Plan) (d : Found) where
   abbrev called : ℕ → ℕ → ℕ → Reading
   called function te context = reading (planned (plan .sets) function te) (noLine 0) context
 
-  call-run : 0 < plan .function → plan .function < 7 → Run (called 0 0 afterCall) d (functionName (plan .function)) (called (plan .function) 0 done) d
-  unfolding nameWord functionWord planning when either
-  call-run some h =
-      let f = plan .function in
-      let name = known-function f some h in
-      let is-read = name-run (called 0 0 afterCall) (called f 0 done) d (name .0) function f (name .2) refl refl refl (simp (lacks-not (planned (plan .sets) f 0) is-called)) refl in
-      subst (λ (text : List ℕ). Run (called 0 0 afterCall) d text (called f 0 done) d) (sym (name .1)) (spaced 1 refl is-read)
-
-  te-run : isTe (plan .te) ≡ true → plan .te < 100000 → Run (called (plan .function) 0 afterTe) d (decimal (plan .te)) (called (plan .function) (plan .te) done) d
-  unfolding readWord planning when either
-  te-run is-te small =
-      let te = plan .te in
-      word-run (called (plan .function) 0 afterTe) (called (plan .function) te done) d d (decimal te) (decimal-some te small) (decimal-spelled te)
-      (simp (decimal-read te small, is-te, lacks-not (planned (plan .sets) (plan .function) te) is-called)) refl refl (append-nil (d .octets))
-
-  te-stops : Stops (bytes "\nTe        " ++ decimal (plan .te))
-  unfolding bytes wordLength when either
-  te-stops = refl
-
-  -- behind another line
-  module _ (some : 0 < plan .function) (h : plan .function < 7) (r : Reading) (before : Line) (is-fed : finishLine r ≡ reading (planned (plan .sets) 0 0) before beginning) where
-    pub calling : Run r d (bytes "\ncall     " ++ functionName (plan .function)) (called (plan .function) 0 done) d
-    unfolding isSaid when
-    calling = join (call-begins (planned (plan .sets) 0 0) before d r is-fed refl) (names-stop function _ names) (call-run some h)
-
-    pub calling-with-te : isTe (plan .te) ≡ true → plan .te < 100000 → Run r d (callText (plan .function) (plan .te)) (reading plan (noLine 0) done) d
-    unfolding isSaid finishLine when either
-    calling-with-te is-te small =
+  -- the function called
+  module _ (is-called : setAt plan 1 (plan .function) % 2 ≡ 1) (some : 0 < plan .function) (h : plan .function < 7) where
+    call-run : Run (called 0 0 afterCall) d (functionName (plan .function)) (called (plan .function) 0 done) d
+    unfolding nameWord functionWord planning when either
+    call-run =
         let f = plan .function in
-        let of-te = te-begins (planned (plan .sets) f 0) (noLine 0) d (called f 0 done) refl (called f (plan .te) done) (decimal (plan .te)) refl (te-run is-te small) in
-        rw (append-assoc (bytes "\ncall     " ++ functionName f) (bytes "\nTe        ") (decimal (plan .te))) (join calling te-stops of-te)
+        let name = known-function f some h in
+        let is-read = name-run (called 0 0 afterCall) (called f 0 done) d (name .0) function f (name .2) refl refl refl (simp (lacks-not (planned (plan .sets) f 0) is-called)) refl in
+        subst (λ (text : List ℕ). Run (called 0 0 afterCall) d text (called f 0 done) d) (sym (name .1)) (spaced 1 refl is-read)
+
+    pub calling : (r : Reading) → Ends (planned (plan .sets) 0 0) r → Run r d (bytes "\ncall     " ++ functionName (plan .function)) (called (plan .function) 0 done) d
+    unfolding isSaid when
+    calling r ends = join (call-begins (planned (plan .sets) 0 0) (ends .0) d r (ends .1) refl) (names-stop function _ names) call-run
+
+  -- Te
+  module _ (lacks : lacksCall (planned (plan .sets) (plan .function) (plan .te)) ≡ false) (is-te : isTe (plan .te) ≡ true) (small : plan .te < 100000) where
+    te-run : Run (called (plan .function) 0 afterTe) d (decimal (plan .te)) (reading plan (noLine 0) done) d
+    unfolding readWord planning when either both
+    te-run =
+        word-run (called (plan .function) 0 afterTe) (reading plan (noLine 0) done) d d (decimal (plan .te)) (decimal-some (plan .te) small) (decimal-spelled (plan .te))
+        (simp (decimal-read (plan .te) small, is-te, lacks)) refl refl (append-nil (d .octets)) refl
+
+    pub te-line : (r : Reading) → Ends (planned (plan .sets) (plan .function) 0) r → Run r d (teText (plan .te)) (reading plan (noLine 0) done) d
+    unfolding isSaid when
+    te-line r ends = te-begins (planned (plan .sets) (plan .function) 0) (ends .0) d r (ends .1) (reading plan (noLine 0) done) (decimal (plan .te)) refl te-run

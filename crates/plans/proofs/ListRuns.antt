@@ -22,7 +22,6 @@ Ends plan r = (before : Line) × (finishLine r ≡ reading plan before beginning
 
 -- the lines of a list: behind their front its first entry may come, and behind each entry another, or the end of the line
 pub record Lines (plan : Plan) (front : List ℕ) (first further : Reading) : Type 0 where
-  pub stops : Stops front
   pub begins : (r : Reading) (d : Found) → Ends plan r → Run r d front first d
   pub ends : Ends plan further
 
@@ -30,18 +29,18 @@ pub record Lines (plan : Plan) (front : List ℕ) (first further : Reading) : Ty
 abbrev pub Ready : Plan → Reading → ℕ → Reading → Type 0
 Ready plan further count r = Ends plan r × (eqb (count % 16) 0 ≡ false → r ≡ further)
 
+pub entry-stops : (front : List ℕ) → Stops front → (count : ℕ) (entry : List ℕ) → Stops (entryText front count entry)
+unfolding wordLength bytes when either
+entry-stops front stops count entry =
+    rw (append-assoc (when (eqb (count % 16) 0) front []) (bytes " ") entry)
+    (stops-joined (when (eqb (count % 16) 0) front []) (32 ∷ entry) (either-way Stops (eqb (count % 16) 0) front [] (λ _. stops) (λ _. refl)) refl)
+
 module _ {plan : Plan} {front : List ℕ} {first further : Reading} (lines : Lines plan front first further) where
   pub ready-on : (count : ℕ) → Ready plan further count further
   ready-on count = (lines .ends, λ _. refl)
 
   -- an entry, which is read alike whether it is the first of its line or not
   module _ (count : ℕ) (entry : List ℕ) where
-    pub entry-stops : Stops (entryText front count entry)
-    unfolding wordLength bytes when either
-    entry-stops =
-        rw (append-assoc (when (eqb (count % 16) 0) front []) (bytes " ") entry)
-        (stops-joined (when (eqb (count % 16) 0) front []) (32 ∷ entry) (either-way Stops (eqb (count % 16) 0) front [] (λ _. lines .stops) (λ _. refl)) refl)
-
     pub entry-run : (d d′ : Found) (r : Reading) → Ready plan further count r → Run first d (32 ∷ entry) further d′ → Run further d (32 ∷ entry) further d′ → Run r d (entryText front count entry) further d′
     unfolding bytes when wordLength either
     entry-run d d′ r ready at-first at-further = rw (append-assoc (when (eqb (count % 16) 0) front []) (bytes " ") entry) (go (eqb (count % 16) 0) (ready .1))

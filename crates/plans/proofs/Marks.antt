@@ -1,5 +1,5 @@
 -- Marks stay marks, whatever text is read: each bit is marked or not. So the marks of a text, over zeros, are those of its plain form. What it gives as
--- blocks are octets.
+-- blocks or as a CM are octets.
 -- Assumes nothing.
 use Prim.Native.Nat.{ℕ, zero, suc}
 use mathlib.Core.Path.{_≡_, refl, ap, ap₂, _∙_}
@@ -13,7 +13,7 @@ use Rattle.laws.proofs.Logic.{either-way, both-true}
 use Rattle.laws.proofs.Computed.{every-joined}
 use Rattle.plans.specs.declared.Reading.{Reading}
 use Rattle.plans.specs.Text.{word, number, noOctet}
-use Rattle.plans.specs.Reading.{between, scanAfter, readByte, fresh, readText, bitPlace, isBit, markedBit, markedFrom, marked, octetAt, oneOctet, octetsFrom, blocksIn}
+use Rattle.plans.specs.Reading.{between, scanAfter, readByte, fresh, readText, bitPlace, isBit, markedBit, markedFrom, marked, octetAt, oneOctet, octetsFrom, octetsIn}
 use Rattle.plans.specs.Good.{Marks, Octets, BlocksAreOctets}
 use Rattle.plans.proofs.Marking.{bits, zeros}
 
@@ -56,11 +56,15 @@ one-is : (n : ℕ) → Octets (oneOctet n)
 unfolding every both
 one-is n = either-way Octets (ltb n noOctet) (n ∷ []) [] (λ small. ap (λ (t : Bool). both t true) small) (λ _. refl)
 
-octets-on : (text : List ℕ) (r : Reading) (scan : ℕ) → Octets (octetsFrom r scan text)
+octets-on : (text : List ℕ) (end : ℕ) (r : Reading) (scan : ℕ) → Octets (octetsFrom end r scan text)
 unfolding octetsFrom every
-octets-on [] r scan = refl
-octets-on (b ∷ rest) r scan = every-joined (λ (n : ℕ). ltb n 256) (oneOctet (octetAt r scan b rest)) _ (one-is (octetAt r scan b rest)) (octets-on rest (readByte r scan b rest) (scanAfter scan b))
+octets-on [] end r scan = refl
+octets-on (b ∷ rest) end r scan =
+    every-joined (λ (n : ℕ). ltb n 256) (oneOctet (octetAt end r scan b rest)) _ (one-is (octetAt end r scan b rest)) (octets-on rest end (readByte r scan b rest) (scanAfter scan b))
+
+pub are-octets : (end : ℕ) (text : List ℕ) → Octets (octetsIn end text)
+unfolding octetsIn every
+are-octets end text = either-way Octets (eqb (readText text .what) 0) (octetsFrom end fresh between text) [] (λ _. octets-on text end fresh between) (λ _. refl)
 
 pub blocks-are-octets : BlocksAreOctets
-unfolding blocksIn every
-blocks-are-octets text = either-way Octets (eqb (readText text .what) 0) (octetsFrom fresh between text) [] (λ _. octets-on text fresh between) (λ _. refl)
+blocks-are-octets text = are-octets 0 text

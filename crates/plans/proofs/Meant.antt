@@ -2,7 +2,7 @@
 -- Assumes nothing.
 use Prim.Native.Nat.{ℕ, _≤_}
 use mathlib.Core.Path.{_≡_, refl}
-use mathlib.Core.Bool.{Bool, true}
+use mathlib.Core.Bool.{Bool, true, false}
 use mathlib.Core.List.{List, [], _∷_}
 use borrow.Author.Tests.{leb-true}
 use lib.Dec.{leb, eqb}
@@ -11,6 +11,7 @@ use Rattle.laws.specs.Tests.{every}
 use Rattle.laws.proofs.Logic.{either-way, both-true}
 use Rattle.names.specs.declared.Meaning.{Meaning}
 use Rattle.names.specs.Bytes.{bytes}
+use Rattle.plans.specs.Reading.{octetsBehind}
 use Rattle.names.specs.Names.{Entry, noName, names, sameLetters, meaningOf, namedBy, named, end, line, function, part, wanted, quality}
 
 -- what holds of each name, and of nothing that is known, holds of what a word names
@@ -38,7 +39,7 @@ pub record Meant (m : Meaning) : Type 0 where
   pub ends : Range end 1 2 m
   pub lines : Range line 5 8 m
   pub functions : Range function 1 6 m
-  pub parts : Range part 3 4 m
+  pub parts : eqb (m .number) octetsBehind ≡ false → Range part 3 4 m
   pub wants : Range wanted 0 3 m
   pub qualities : Range quality 0 3 m
 
@@ -48,7 +49,7 @@ meant word = record {
   ends = in-range end 1 2 (named word) (each-named (within end 1 2) names word refl refl);
   lines = in-range line 5 8 (named word) (each-named (within line 5 8) names word refl refl);
   functions = in-range function 1 6 (named word) (each-named (within function 1 6) names word refl refl);
-  parts = in-range part 3 4 (named word) (each-named (within part 3 4) names word refl refl);
+  parts = λ others. in-range part 3 4 (named word) (rw others at (each-named (λ (m : Meaning). when (eqb (m .number) octetsBehind) true (within part 3 4 m)) names word refl refl));
   wants = in-range wanted 0 3 (named word) (each-named (within wanted 0 3) names word refl refl);
   qualities = in-range quality 0 3 (named word) (each-named (within quality 0 3) names word refl refl);
 }

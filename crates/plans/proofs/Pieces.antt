@@ -16,8 +16,8 @@ use Rattle.names.specs.Names.{function, part, names, namesOf}
 use Rattle.plans.specs.declared.Plan.{Plan}
 use Rattle.plans.specs.declared.Piece.{Piece}
 use Rattle.plans.specs.Reading.{added}
-use Rattle.plans.specs.Plain.{functionName, functionsText, endText, decimal, entryFront, octetsText, bitsText, damageText, callText, plain}
-use Rattle.plans.specs.Inner.{texts, Writes, homeText, pieceText, piecesText, fronts, frontText, Front}
+use Rattle.plans.specs.Plain.{functionName, functionsText, endText, entryFront, octetsText, bitsText, damageText, headText, teText, plain}
+use Rattle.plans.specs.Inner.{texts, Writes, homeText, frontOf, pieceText, piecesText, fronts, frontText, Front}
 
 -- no name is of no kind
 none-named : namesOf 0 0 names ≡ []
@@ -30,7 +30,7 @@ home-named = refl
 
 -- a text is a part of the texts
 abbrev Part : ℕ → ℕ → List ℕ → Type 0
-Part from to text = (from ≤ to) × (to ≤ 68) × (take (to - from) (drop from texts) ≡ text)
+Part from to text = (from ≤ to) × (to ≤ 46) × (take (to - from) (drop from texts) ≡ text)
 
 abbrev piece : ℕ → ℕ → ℕ → ℕ → ℕ → ℕ → Piece
 piece kind set after more from to = record { kind = kind; set = set; after = after; more = more; from = from; to = to }
@@ -56,53 +56,41 @@ module _ (from to : ℕ) (text : List ℕ) (is-part : Part from to text) where
   no-kind = writes-as _ _ (one-kind 0 0) (ap (λ (t : List ℕ). t ++ text) none-named)
 
 -- the parts of the texts that pieces have
-pub comma : Part 41 42 (bytes ",")
+pub comma : Part 19 20 (bytes ",")
 unfolding texts bytes
 comma = (lit≤ tt, lit≤ tt, refl)
 
 pub no-text : Part 0 0 []
 no-text = (lit≤ tt, lit≤ tt, refl)
 
-pub caller-front : Part 1 10 (bytes "caller   ")
+pub caller-front : Part 0 9 (bytes "caller   ")
 unfolding texts bytes
 caller-front = (lit≤ tt, lit≤ tt, refl)
 
-pub answerer-front : Part 10 20 (bytes "\nanswerer ")
+pub answerer-front : Part 9 19 (bytes "\nanswerer ")
 unfolding texts bytes
 answerer-front = (lit≤ tt, lit≤ tt, refl)
-
-pub call-front : Part 20 30 (bytes "\ncall     ")
-unfolding texts bytes
-call-front = (lit≤ tt, lit≤ tt, refl)
-
-pub te-front : Part 30 41 (bytes "\nTe        ")
-unfolding texts bytes
-te-front = (lit≤ tt, lit≤ tt, refl)
-
-pub line-feed : Part 0 1 (bytes "\n")
-unfolding texts bytes
-line-feed = (lit≤ tt, lit≤ tt, refl)
 
 -- what an end wants, by what it says of LAPM, access and its line
 abbrev wishes : Bool → Bool → Bool → List ℕ
 wishes lapm access line = when lapm (bytes ", wants LAPM") [] ++ when access (bytes ", wants access") [] ++ when line (bytes ",") []
 
-neither : (line : Bool) → Part 41 (41 + boolByte line) (wishes false false line)
+neither : (line : Bool) → Part 19 (19 + boolByte line) (wishes false false line)
 unfolding texts bytes when
 neither true = (lit≤ tt, lit≤ tt, refl)
 neither false = (lit≤ tt, lit≤ tt, refl)
 
-lapm-alone : (line : Bool) → Part 41 (53 + boolByte line) (wishes true false line)
+lapm-alone : (line : Bool) → Part 19 (31 + boolByte line) (wishes true false line)
 unfolding texts bytes when
 lapm-alone true = (lit≤ tt, lit≤ tt, refl)
 lapm-alone false = (lit≤ tt, lit≤ tt, refl)
 
-access-alone : (line : Bool) → Part 53 (67 + boolByte line) (wishes false true line)
+access-alone : (line : Bool) → Part 31 (45 + boolByte line) (wishes false true line)
 unfolding texts bytes when
 access-alone true = (lit≤ tt, lit≤ tt, refl)
 access-alone false = (lit≤ tt, lit≤ tt, refl)
 
-both-wanted : (line : Bool) → Part 41 (67 + boolByte line) (wishes true true line)
+both-wanted : (line : Bool) → Part 19 (45 + boolByte line) (wishes true true line)
 unfolding texts bytes when
 both-wanted true = (lit≤ tt, lit≤ tt, refl)
 both-wanted false = (lit≤ tt, lit≤ tt, refl)
@@ -118,22 +106,22 @@ module _ (home said more : ℕ) (is-home : more ≡ added 0 (home % 8)) where
       (ap₂ (λ (word : List ℕ) (n : ℕ). word ++ namesOf function n names ++ wishes lapm access line) home-named is-home
       ∙ ap₂ (λ (a b : Bool). bytes " home" ++ functionName (home % 8) ++ wishes a b line) (sym is-lapm) (sym is-access))
 
-  pub wants-nothing : said % 4 ≡ 0 → Writes (piece part 8 function more 41 (41 + boolByte line)) (homeText home said)
-  wants-nothing h = home-writes false false 41 _ (neither line) (ne-eqb (said % 2) 1 (λ e. omega (arith, h, e))) (ne-eqb (said / 2 % 2) 1 (λ e. omega (arith, h, e)))
+  pub wants-nothing : said % 4 ≡ 0 → Writes (piece part 8 function more 19 (19 + boolByte line)) (homeText home said)
+  wants-nothing h = home-writes false false 19 _ (neither line) (ne-eqb (said % 2) 1 (λ e. omega (arith, h, e))) (ne-eqb (said / 2 % 2) 1 (λ e. omega (arith, h, e)))
 
-  pub wants-lapm : said % 4 ≡ 1 → Writes (piece part 8 function more 41 (53 + boolByte line)) (homeText home said)
-  wants-lapm h = home-writes true false 41 _ (lapm-alone line) (eq-eqb (said % 2) 1 (omega (arith, h))) (ne-eqb (said / 2 % 2) 1 (λ e. omega (arith, h, e)))
+  pub wants-lapm : said % 4 ≡ 1 → Writes (piece part 8 function more 19 (31 + boolByte line)) (homeText home said)
+  wants-lapm h = home-writes true false 19 _ (lapm-alone line) (eq-eqb (said % 2) 1 (omega (arith, h))) (ne-eqb (said / 2 % 2) 1 (λ e. omega (arith, h, e)))
 
-  pub wants-access : said % 4 ≡ 2 → Writes (piece part 8 function more 53 (67 + boolByte line)) (homeText home said)
-  wants-access h = home-writes false true 53 _ (access-alone line) (ne-eqb (said % 2) 1 (λ e. omega (arith, h, e))) (eq-eqb (said / 2 % 2) 1 (omega (arith, h)))
+  pub wants-access : said % 4 ≡ 2 → Writes (piece part 8 function more 31 (45 + boolByte line)) (homeText home said)
+  wants-access h = home-writes false true 31 _ (access-alone line) (ne-eqb (said % 2) 1 (λ e. omega (arith, h, e))) (eq-eqb (said / 2 % 2) 1 (omega (arith, h)))
 
-  pub wants-both : said % 4 ≡ 3 → Writes (piece part 8 function more 41 (67 + boolByte line)) (homeText home said)
-  wants-both h = home-writes true true 41 _ (both-wanted line) (eq-eqb (said % 2) 1 (omega (arith, h))) (eq-eqb (said / 2 % 2) 1 (omega (arith, h)))
+  pub wants-both : said % 4 ≡ 3 → Writes (piece part 8 function more 19 (45 + boolByte line)) (homeText home said)
+  wants-both h = home-writes true true 19 _ (both-wanted line) (eq-eqb (said % 2) 1 (omega (arith, h))) (eq-eqb (said / 2 % 2) 1 (omega (arith, h)))
 
--- the ends and the call up to Te
-lines-in-pieces : (plan : Plan) → piecesText plan 0 18 ++ decimal (plan .te) ≡ endText (bytes "caller   ") plan 1 ++ endText (bytes "\nanswerer ") plan 2 ++ callText (plan .function) (plan .te)
+-- the pieces of an end's line
+pub end-in-pieces : (plan : Plan) (end : ℕ) → piecesText plan end 0 9 ≡ endText (frontOf end) plan end
 unfolding piecesText pieceText functionsText homeText when
-lines-in-pieces plan = simp (append-assoc, append-nil)
+end-in-pieces plan end = simp (append-assoc, append-nil)
 
 caller-bits : frontText 0 17 ≡ bytes "\ndamaged   caller"
 unfolding fronts bytes
@@ -151,7 +139,7 @@ pub answerer-bits-front : Front 18 37
 unfolding fronts bytes
 answerer-bits-front = record { order = lit≤ tt; within = lit< tt; line = refl; alone = refl }
 
-pub blocks-lines : frontText 38 48 ≡ bytes "\nblocks   "
+blocks-lines : frontText 38 48 ≡ bytes "\nblocks   "
 unfolding fronts bytes
 blocks-lines = refl
 
@@ -193,18 +181,25 @@ both-ends damaged true is-long =
 both-ends damaged false is-long =
     ap (λ (short : Bool). when short [] (bitsText (bytes "\ndamaged   caller") 0 0 (take 9000 damaged) ++ bitsText (bytes "\ndamaged   answerer") 0 0 (take 9000 (drop 9000 damaged)))) (sym (lt-ltb _ _ (leb-false 18000 (length damaged) is-long)))
 
-module _ (plan : Plan) (blocks damaged : List ℕ) where
+-- octets in one line have a blank before each
+pub no-front : Front 48 48
+unfolding fronts bytes
+no-front = record { order = lit≤ tt; within = lit< tt; line = refl; alone = refl }
+
+module _ (plan : Plan) (cm blocks damaged : List ℕ) where
   abbrev bits : ℕ → ℕ → ℕ → List ℕ
   bits front blank start = bitsText (frontText front blank) 0 0 (take (times (leb 18000 (length damaged))) (drop start damaged))
 
-  pub plain-in-pieces : piecesText plan 0 18 ++ decimal (plan .te) ++ octetsText 0 blocks ++ bits 0 17 0 ++ bits 18 37 (times (leb 18000 (length damaged))) ++ piecesText plan 18 1 ≡ plain plan blocks damaged
-  unfolding piecesText pieceText plain when
+  pub plain-in-pieces :
+      headText plan cm ++ teText (plan .te) ++ octetsText (frontText 38 48) 0 blocks ++ bits 0 17 0 ++ bits 18 37 (times (leb 18000 (length damaged))) ++ bytes "\n"
+      ≡ plain plan cm blocks damaged
+  unfolding plain
   plain-in-pieces =
-      let lines = endText (bytes "caller   ") plan 1 ++ endText (bytes "\nanswerer ") plan 2 ++ callText (plan .function) (plan .te) ++ octetsText 0 blocks in
+      let of-blocks = octetsText (frontText 38 48) 0 blocks in
       let answerers = bits 18 37 (times (leb 18000 (length damaged))) in
-      ap (λ (front : List ℕ). front ++ octetsText 0 blocks ++ bits 0 17 0 ++ answerers ++ (bytes "\n" ++ [])) (lines-in-pieces plan)
-      ∙ ap (λ (text : List ℕ). text ++ (bytes "\n" ++ [])) (append-assoc lines (bits 0 17 0) answerers ∙ ap (λ (text : List ℕ). lines ++ text) (both-ends damaged (leb 18000 (length damaged)) refl))
-      ∙ ap (λ (end : List ℕ). lines ++ damageText damaged ++ end) (append-nil (bytes "\n"))
+      let lines = headText plan cm ++ teText (plan .te) ++ of-blocks in
+      ap (λ (text : List ℕ). text ++ bytes "\n") (append-assoc lines (bits 0 17 0) answerers ∙ ap (λ (text : List ℕ). lines ++ text) (both-ends damaged (leb 18000 (length damaged)) refl))
+      ∙ ap (λ (front : List ℕ). headText plan cm ++ teText (plan .te) ++ octetsText front 0 blocks ++ damageText damaged ++ bytes "\n") blocks-lines
 
 -- a sum with a test
 pub few : (n : ℕ) (test : Bool) → n ≤ 100 → n + boolByte test ≤ 101

@@ -3,7 +3,7 @@
 use Prim.Native.Nat.{ℕ, zero, suc, _<_, _+_}
 use native.Mathlib.Nat.{not-suc-le-zero}
 use native.Mathlib.Omega.{arith}
-use mathlib.Core.Path.{_≡_, refl, sym, ap, _∙_}
+use mathlib.Core.Path.{_≡_, refl, sym, ap, ap₂, _∙_}
 use mathlib.Core.Bool.{Bool, true, false, not}
 use mathlib.Core.List.{List, [], _∷_, _++_, append-assoc, append-nil}
 use borrow.Author.Tests.{not-true}
@@ -29,19 +29,20 @@ pub holds : (t : Bool) → T t → t ≡ true
 holds true h = refl
 holds false h = absurd h
 
--- what is found in a text beside the plan, up to a place: the damaged bits, and the octets of the blocks
+-- what is found in a text beside the plan, up to a place: the damaged bits, and the octets in lines about one end, or about none
 pub record Found : Type 0 where
   pub damaged : List ℕ
   pub octets : List ℕ
+  pub whose : ℕ
 
-abbrev pub found : List ℕ → List ℕ → Found
-found damaged octets = record { damaged = damaged; octets = octets }
+abbrev pub found : List ℕ → List ℕ → ℕ → Found
+found damaged octets whose = record { damaged = damaged; octets = octets; whose = whose }
 
 -- a text is read on from a place in it: so many bytes are behind
 pub record Goes (r : Reading) (scan : ℕ) (d : Found) (text : List ℕ) (count : ℕ) (r′ : Reading) (scan′ : ℕ) (d′ : Found) (rest : List ℕ) : Type 0 where
   pub reads : (at : ℕ) → readFrom r scan at text ≡ readFrom r′ scan′ (at + count) rest
   pub marks : markedFrom r scan text (d .damaged) ≡ markedFrom r′ scan′ rest (d′ .damaged)
-  pub gives : d .octets ++ octetsFrom r scan text ≡ d′ .octets ++ octetsFrom r′ scan′ rest
+  pub gives : d .octets ++ octetsFrom (d .whose) r scan text ≡ d′ .octets ++ octetsFrom (d′ .whose) r′ scan′ rest
 
 -- a piece of a text is read, whatever stands behind it that does not go on with its last word
 pub record Run (r : Reading) (d : Found) (text : List ℕ) (r′ : Reading) (d′ : Found) : Type 0 where
@@ -58,14 +59,14 @@ go-on {r″} {s″} {rest′} m n k sum first second = record {
 
 -- one byte
 module _ (r r′ : Reading) (s s′ b : ℕ) (rest : List ℕ) (d d′ : Found) (is-read : readByte r s b rest ≡ r′) (is-scan : scanAfter s b ≡ s′) (is-right : r′ .what ≡ 0)
-    (is-marked : markedBit r s b rest (d .damaged) ≡ d′ .damaged) (is-given : d .octets ++ oneOctet (octetAt r s b rest) ≡ d′ .octets)
+    (is-marked : markedBit r s b rest (d .damaged) ≡ d′ .damaged) (is-given : d .octets ++ oneOctet (octetAt (d .whose) r s b rest) ≡ d′ .octets) (is-whose : d .whose ≡ d′ .whose)
   where
     one-byte : Goes r s d (b ∷ rest) 1 r′ s′ d′ rest
     unfolding readFrom markedFrom octetsFrom when
     one-byte = record {
       reads = λ at. simp (is-read, is-scan, is-right);
       marks = simp (is-read, is-scan, is-marked);
-      gives = simp (is-read, is-scan) (sym (append-assoc (d .octets) (oneOctet (octetAt r s b rest)) (octetsFrom r′ s′ rest)) ∙ ap (λ (front : List ℕ). front ++ octetsFrom r′ s′ rest) is-given);
+      gives = simp (is-read, is-scan) (sym (append-assoc (d .octets) (oneOctet (octetAt (d .whose) r s b rest)) (octetsFrom (d .whose) r′ s′ rest)) ∙ ap₂ (λ (front : List ℕ) (whose : ℕ). front ++ octetsFrom whose r′ s′ rest) is-given is-whose);
     }
 
 -- where a text stops, it is the same whether a word stands before it or not
@@ -93,7 +94,7 @@ module _ (r : Reading) (d : Found) where
   same-marks [] stops = refl
   same-marks (b ∷ rest) stops = simp (stop-first b rest stops)
 
-  same-octets : (rest : List ℕ) → Stops rest → octetsFrom r inWord rest ≡ octetsFrom r between rest
+  same-octets : (rest : List ℕ) → Stops rest → octetsFrom (d .whose) r inWord rest ≡ octetsFrom (d .whose) r between rest
   unfolding octetsFrom readByte scanAfter when both
   same-octets [] stops = refl
   same-octets (b ∷ rest) stops = simp (stop-first b rest stops)
@@ -121,7 +122,7 @@ in-word b h =
 module _ (r : Reading) (is-right : r .what ≡ 0) (d : Found) where
   within-byte : (b : ℕ) (rest : List ℕ) → InWord b → Goes r inWord d (b ∷ rest) 1 r inWord d rest
   unfolding readByte scanAfter when both either
-  within-byte b rest w = one-byte r r inWord inWord b rest d d (simp (w .feed, w .hash, w .gap)) (simp (w .feed, w .hash, w .gap)) is-right (simp (w .feed, w .hash, w .gap)) (simp (w .feed, w .hash, w .gap, append-nil))
+  within-byte b rest w = one-byte r r inWord inWord b rest d d (simp (w .feed, w .hash, w .gap)) (simp (w .feed, w .hash, w .gap)) is-right (simp (w .feed, w .hash, w .gap)) (simp (w .feed, w .hash, w .gap, append-nil)) refl
 
   within : (w rest : List ℕ) → spelled w ≡ true → Goes r inWord d (w ++ rest) (length w) r inWord d rest
   unfolding every
@@ -149,10 +150,10 @@ nothing r d = record { goes = λ rest stops. record { reads = λ at. ap (λ (pla
 pub word-run :
     (r r′ : Reading) (d d′ : Found) (w : List ℕ) → 0 < length w → spelled w ≡ true → readWord r w ≡ r′ → r′ .what ≡ 0
     → when (atBits r) (set (d .damaged) (bitPlace (r .end) (number w)) 1) (d .damaged) ≡ d′ .damaged
-    → d .octets ++ oneOctet (when (atOctets r) (octet w) noOctet) ≡ d′ .octets → Run r d w r′ d′
+    → d .octets ++ oneOctet (when (both (atOctets r) (eqb (r .end) (d .whose))) (octet w) noOctet) ≡ d′ .octets → d .whose ≡ d′ .whose → Run r d w r′ d′
 unfolding every readByte scanAfter when both either
-word-run r r′ d d′ [] full h is-read is-right is-marked is-given = absurd (not-suc-le-zero full)
-word-run r r′ d d′ (b ∷ w) full h is-read is-right is-marked is-given = record { goes = go }
+word-run r r′ d d′ [] full h is-read is-right is-marked is-given is-whose = absurd (not-suc-le-zero full)
+word-run r r′ d d′ (b ∷ w) full h is-read is-right is-marked is-given is-whose = record { goes = go }
   where
     go : (rest : List ℕ) → Stops rest → Goes r between d (b ∷ w ++ rest) (suc (length w)) r′ between d′ rest
     go rest stops =
@@ -160,7 +161,7 @@ word-run r r′ d d′ (b ∷ w) full h is-read is-right is-marked is-given = re
         let i = in-word b (here .0) in
         let front = word-front (b ∷ w) rest h stops in
         go-on 1 (length w + 0) (suc (length w)) (omega arith)
-        (one-byte r r′ between inWord b (w ++ rest) d d′ (simp (i .feed, i .hash, i .gap, front, is-read)) (simp (i .feed, i .hash, i .gap)) is-right (simp (i .feed, i .hash, i .gap, front, is-marked)) (simp (i .feed, i .hash, i .gap, front) is-given))
+        (one-byte r r′ between inWord b (w ++ rest) d d′ (simp (i .feed, i .hash, i .gap, front, is-read)) (simp (i .feed, i .hash, i .gap)) is-right (simp (i .feed, i .hash, i .gap, front, is-marked)) (simp (i .feed, i .hash, i .gap, front) is-given) is-whose)
         (go-on (length w) 0 (length w + 0) refl (within r′ is-right d′ w rest (here .1)) (same-scan r′ d′ rest stops))
 
 -- a blank before a piece
@@ -169,7 +170,7 @@ unfolding readByte scanAfter when both either
 behind {r} {r′} {d} {d′} {text} b gap feed hash is-right run = record {
   goes = λ rest stops.
       go-on 1 (length text) (suc (length text)) (omega arith)
-      (one-byte r r between between b (text ++ rest) d d (simp (gap, feed)) (simp (feed, hash, gap)) is-right (simp gap) (simp (gap, append-nil)))
+      (one-byte r r between between b (text ++ rest) d d (simp (gap, feed)) (simp (feed, hash, gap)) is-right (simp gap) (simp (gap, append-nil)) refl)
       (run .goes rest stops);
 }
 
@@ -189,7 +190,7 @@ unfolding readByte scanAfter when both either
 fed {r} {r′} {r″} {d} {d′} {text} is-fed is-right run = record {
   goes = λ rest stops.
       go-on 1 (length text) (suc (length text)) (omega arith)
-      (one-byte r r′ between between lineFeed (text ++ rest) d d is-fed refl is-right refl (append-nil (d .octets)))
+      (one-byte r r′ between between lineFeed (text ++ rest) d d is-fed refl is-right refl (append-nil (d .octets)) refl)
       (run .goes rest stops);
 }
 
@@ -215,6 +216,6 @@ module _ {r r′ : Reading} {d d′ : Found} {text : List ℕ} (run : Run r d te
   unfolding markedFrom
   whole-marked = whole .marks
 
-  pub whole-given : d .octets ++ octetsFrom r between text ≡ d′ .octets
+  pub whole-given : d .octets ++ octetsFrom (d .whose) r between text ≡ d′ .octets
   unfolding octetsFrom
   whole-given = whole .gives ∙ append-nil (d′ .octets)

@@ -11,36 +11,35 @@ use lib.Dec.{eqb}
 use lib.ListN.{length, getD, take, drop, length-drop, drop-of-length-le}
 use lib.Seq.{drop-cons, length-take-le, getD-take, getD-drop}
 use Rattle.laws.specs.Logic.{when}
-use Rattle.names.specs.Bytes.{bytes}
 use Rattle.printing.specs.Page.{Page, typed, hexOctet}
 use Rattle.printing.proofs.Pages.{typed-joined}
 use Rattle.plans.specs.declared.Plan.{Plan}
 use Rattle.plans.specs.Plain.{entryText, octetsText, bitText, bitsText}
 use Rattle.plans.specs.Inner.{pieceText, piecesText}
 
-module _ (p : Page) (plan : Plan) (i last : ℕ) where
-  pub pieces-on : i < last → typed p (piecesText plan i (last - i)) ≡ typed (typed p (pieceText plan i)) (piecesText plan (i + 1) (last - (i + 1)))
+module _ (p : Page) (plan : Plan) (end k last : ℕ) where
+  pub pieces-on : k < last → typed p (piecesText plan end k (last - k)) ≡ typed (typed p (pieceText plan end k)) (piecesText plan end (k + 1) (last - (k + 1)))
   unfolding piecesText
   pieces-on more =
-      let one-more : last - i ≡ suc (last - (i + 1)) = omega (arith, more) in
-      ap (λ (count : ℕ). typed p (piecesText plan i count)) one-more ∙ typed-joined p (pieceText plan i) (piecesText plan (i + 1) (last - (i + 1)))
+      let one-more : last - k ≡ suc (last - (k + 1)) = omega (arith, more) in
+      ap (λ (count : ℕ). typed p (piecesText plan end k count)) one-more ∙ typed-joined p (pieceText plan end k) (piecesText plan end (k + 1) (last - (k + 1)))
 
-  pub pieces-end : last ≤ i → typed p (piecesText plan i (last - i)) ≡ p
+  pub pieces-end : last ≤ k → typed p (piecesText plan end k (last - k)) ≡ p
   unfolding piecesText typed
   pieces-end over =
-      let none-left : last - i ≡ 0 = omega (arith, over) in
-      ap (λ (count : ℕ). typed p (piecesText plan i count)) none-left
+      let none-left : last - k ≡ 0 = omega (arith, over) in
+      ap (λ (count : ℕ). typed p (piecesText plan end k count)) none-left
 
-module _ (p : Page) (blocks : List ℕ) (i : ℕ) where
-  pub octet-on : i < length blocks → typed p (octetsText i (drop i blocks)) ≡ typed (typed p (entryText (bytes "\nblocks   ") i (hexOctet (getD blocks i 0)))) (octetsText (i + 1) (drop (i + 1) blocks))
+module _ (p : Page) (front octets : List ℕ) (i : ℕ) where
+  pub octet-on : i < length octets → typed p (octetsText front i (drop i octets)) ≡ typed (typed p (entryText front i (hexOctet (getD octets i 0)))) (octetsText front (i + 1) (drop (i + 1) octets))
   unfolding octetsText
   octet-on more =
-      let here = drop-cons blocks i 0 more ∙ ap (λ (next : ℕ). getD blocks i 0 ∷ drop next blocks) (sym (add-one i)) in
-      ap (λ (rest : List ℕ). typed p (octetsText i rest)) here ∙ typed-joined p (entryText (bytes "\nblocks   ") i (hexOctet (getD blocks i 0))) (octetsText (i + 1) (drop (i + 1) blocks))
+      let here = drop-cons octets i 0 more ∙ ap (λ (next : ℕ). getD octets i 0 ∷ drop next octets) (sym (add-one i)) in
+      ap (λ (rest : List ℕ). typed p (octetsText front i rest)) here ∙ typed-joined p (entryText front i (hexOctet (getD octets i 0))) (octetsText front (i + 1) (drop (i + 1) octets))
 
-  pub octets-end : length blocks ≤ i → typed p (octetsText i (drop i blocks)) ≡ p
+  pub octets-end : length octets ≤ i → typed p (octetsText front i (drop i octets)) ≡ p
   unfolding octetsText typed
-  octets-end over = ap (λ (rest : List ℕ). typed p (octetsText i rest)) (drop-of-length-le blocks over)
+  octets-end over = ap (λ (rest : List ℕ). typed p (octetsText front i rest)) (drop-of-length-le octets over)
 
 -- so many bits from a place on are those of the list
 module _ (damaged : List ℕ) (start times i : ℕ) (all : start + times ≤ length damaged) where

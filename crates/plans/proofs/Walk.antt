@@ -8,7 +8,7 @@ use mathlib.Core.Path.{_≡_, refl, sym, ap, _∙_}
 use mathlib.Core.Bool.{Bool, true, false}
 use mathlib.Core.List.{List, [], _∷_, _++_}
 use mathlib.Core.Logic.{_⊎_, inl, inr}
-use borrow.Author.Tests.{eq-eqb, ne-eqb, lt-ltb, le-ltb}
+use borrow.Author.Tests.{eqb-true, eq-eqb, ne-eqb, lt-ltb, le-ltb}
 use lib.Dec.{ltb, eqb}
 use lib.ListN.{length, getD, set, drop, take, length-set, drop-of-length-le}
 use lib.Seq.{drop-cons}
@@ -46,6 +46,11 @@ not-in-word feed mark true no-word = refl
 not-in-word true mark false no-word = refl
 not-in-word false true false no-word = refl
 not-in-word false false false no-word = absurd (no-word refl)
+
+-- a line feed begins no word
+pub feeds-no-word : (scan b : ℕ) → eqb b lineFeed ≡ true → beginsWord scan b ≡ false
+unfolding when either
+feeds-no-word scan b feed = rw (eqb-true b lineFeed feed)
 
 -- an octet stands at a place, or none does
 pub one-octet : (n : ℕ) (rest : List ℕ) → n < noOctet → oneOctet n ++ rest ≡ n ∷ rest
@@ -182,11 +187,11 @@ module _ (text : List ℕ) (i : ℕ) where
             let is-read = ap (λ (x : Reading). markedFrom x (scanAfter scan this) rest (markedBit r scan this rest damaged)) is-next in
             (simp (is-after, is-marked) (is-read ∙ ap (λ (list : List ℕ). markedFrom r scan list damaged) (sym here)), ap length is-now ∙ length-set damaged at 1)
 
-        pub octets-on : (after n : ℕ) → after ≡ scanAfter scan this → n ≡ octetAt r scan this rest → octetsFrom r scan (drop i text) ≡ oneOctet n ++ octetsFrom next after rest
+        pub octets-on : (end after n : ℕ) → after ≡ scanAfter scan this → n ≡ octetAt end r scan this rest → octetsFrom end r scan (drop i text) ≡ oneOctet n ++ octetsFrom end next after rest
         unfolding octetsFrom
-        octets-on after n is-after is-n =
-            let is-read = ap (λ (x : Reading). oneOctet (octetAt r scan this rest) ++ octetsFrom x (scanAfter scan this) rest) (sym is-next) in
-            ap (octetsFrom r scan) here ∙ is-read ∙ simp (is-after, is-n)
+        octets-on end after n is-after is-n =
+            let is-read = ap (λ (x : Reading). oneOctet (octetAt end r scan this rest) ++ octetsFrom end x (scanAfter scan this) rest) (sym is-next) in
+            ap (octetsFrom end r scan) here ∙ is-read ∙ simp (is-after, is-n)
 
   module _ (over : length text ≤ i) where
     nothing : drop i text ≡ []
@@ -213,9 +218,9 @@ module _ (text : List ℕ) (i : ℕ) where
     unfolding markedFrom
     marked-end r scan damaged = simp nothing
 
-    pub octets-end : (r : Reading) (scan : ℕ) → octetsFrom r scan (drop i text) ≡ []
+    pub octets-end : (end : ℕ) (r : Reading) (scan : ℕ) → octetsFrom end r scan (drop i text) ≡ []
     unfolding octetsFrom
-    octets-end r scan = simp nothing
+    octets-end end r scan = simp nothing
 
 -- no line feed stands in no text
 pub lines-none : (text : List ℕ) → lineFeeds (take 0 text) ≡ 0

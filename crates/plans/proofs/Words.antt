@@ -83,6 +83,6 @@ module _ (r r′ : Reading) (d : Found) (word : List ℕ) (kind number : ℕ) wh
   pub name-run :
       Known word kind number → eqb (r .context) 6 ≡ false → atBits r ≡ false → atOctets r ≡ false → nameWord r (meaning kind number) ≡ r′ → r′ .what ≡ 0
       → Run r d word r′ d
-  unfolding readWord when
+  unfolding readWord when both
   name-run is-known no-te no-bits no-octets is-read is-right =
-      word-run r r′ d d word (is-known .some) (is-known .whole) (simp (no-te, no-bits, no-octets, is-known .meant) is-read) is-right (simp no-bits) (simp (no-octets, append-nil))
+      word-run r r′ d d word (is-known .some) (is-known .whole) (simp (no-te, no-bits, no-octets, is-known .meant) is-read) is-right (simp no-bits) (simp (no-octets, append-nil)) refl

@@ -2,7 +2,7 @@
 use Prim.Native.Nat.{ℕ, _≤_, _<_, _%_}
 use mathlib.Core.Path.{_≡_}
 use mathlib.Core.Bool.{true, false}
-use mathlib.Core.List.{List, _++_}
+use mathlib.Core.List.{List, [], _++_}
 use mathlib.Core.Logic.{_⊎_}
 use lib.Dec.{leb, ltb}
 use lib.ListN.{length, replicate}
@@ -11,8 +11,8 @@ use Rattle.names.specs.Bytes.{bytes}
 use Rattle.records.specs.Record.{badRecord}
 use Rattle.steps.specs.Session.{isTe}
 use Rattle.plans.specs.declared.Plan.{Plan}
-use Rattle.plans.specs.Reading.{home, setAt, recordOf, answer, readText, marked, blocksIn}
-use Rattle.plans.specs.Plain.{functionName, endText, octetsText, damageText, plain}
+use Rattle.plans.specs.Reading.{home, stranger, setAt, recordOf, answer, readText, marked, blocksIn, cmIn}
+use Rattle.plans.specs.Plain.{octetsText, damageText, headText, plain}
 
 -- an end whose record is accepted: sets of sixteen numbers; nothing is said of a function that it has not; the home function is one of six; it wants
 -- and is no more than there is
@@ -23,13 +23,22 @@ pub record GoodEnd (plan : Plan) (end : ℕ) : Type 0 where
   pub home-function : setAt plan end home ≤ 6
   pub said : setAt plan end 0 ≤ 15
 
--- a call that can be made: two such ends, a function that the caller has, and Te within its range
-pub record Good (plan : Plan) : Type 0 where
-  pub sixteen : length (plan .sets) ≡ 16
+-- a caller whose record is known, with a function that it has
+pub record KnownCaller (plan : Plan) : Type 0 where
   pub caller : GoodEnd plan 1
-  pub answerer : GoodEnd plan 2
   pub function : (1 ≤ plan .function) × (plan .function ≤ 6)
   pub called : setAt plan 1 (plan .function) % 2 ≡ 1
+
+-- a caller of which nothing is said but its CM
+pub record Stranger (plan : Plan) : Type 0 where
+  pub unknown : plan .function ≡ stranger
+  pub nothing-said : (k : ℕ) → k < 8 → setAt plan 1 k ≡ 0
+
+-- a call that can be made: a caller and an answerer, and Te within its range
+pub record Good (plan : Plan) : Type 0 where
+  pub sixteen : length (plan .sets) ≡ 16
+  pub caller : KnownCaller plan ⊎ Stranger plan
+  pub answerer : GoodEnd plan 2
   pub te : isTe (plan .te) ≡ true
 
 -- 1 for each damaged bit of both ends, 0 for every other
@@ -41,40 +50,48 @@ pub record Marks (damaged : List ℕ) : Type 0 where
 abbrev pub Octets : List ℕ → Type 0
 Octets list = every (λ (b : ℕ). ltb b 256) list ≡ true
 
--- a text that is no mistake is a call that can be made
+-- the CM that is given with a plan: octets, of a stranger at least one, and of a caller that is known none
+pub record Given (plan : Plan) (cm : List ℕ) : Type 0 where
+  pub octets : Octets cm
+  pub some : plan .function ≡ stranger → 0 < length cm
+  pub none : (plan .function ≡ stranger → ⊥) → cm ≡ []
+
+-- a text that is no mistake is a call that can be made, with the CM of a stranger where one calls
 abbrev pub PlansAreGood : Type 0
-PlansAreGood = (text : List ℕ) → readText text .what ≡ 0 → Good (readText text .plan)
+PlansAreGood = (text : List ℕ) → readText text .what ≡ 0 → Good (readText text .plan) × Given (readText text .plan) (cmIn text)
 
 -- what a text gives as blocks are octets
 abbrev pub BlocksAreOctets : Type 0
 BlocksAreOctets = (text : List ℕ) → Octets (blocksIn text)
 
--- a text that is read, to its end, as this call with these blocks and these bits damaged
-abbrev pub IsReadAs : Plan → List ℕ → List ℕ → List ℕ → Type 0
-IsReadAs plan blocks damaged text = (readText text ≡ answer plan 0 (length text)) × (blocksIn text ≡ blocks) × (marked text (replicate 18000 0) ≡ damaged)
+-- a text that is read, to its end, as this call with this CM, these blocks and these bits damaged
+abbrev pub IsReadAs : Plan → List ℕ → List ℕ → List ℕ → List ℕ → Type 0
+IsReadAs plan cm blocks damaged text =
+    (readText text ≡ answer plan 0 (length text)) × (cmIn text ≡ cm) × (blocksIn text ≡ blocks) × (marked text (replicate 18000 0) ≡ damaged)
 
--- the plain form of a call that can be made is read as that call, with the same blocks and the same bits damaged
+-- the plain form of a call that can be made is read as that call, with the same CM, the same blocks and the same bits damaged
 abbrev pub PlainReadsBack : Type 0
-PlainReadsBack = (plan : Plan) (blocks damaged : List ℕ) → Good plan → Octets blocks → Marks damaged → IsReadAs plan blocks damaged (plain plan blocks damaged)
+PlainReadsBack =
+    (plan : Plan) (cm blocks damaged : List ℕ) → Good plan → Given plan cm → Octets blocks → Marks damaged
+    → IsReadAs plan cm blocks damaged (plain plan cm blocks damaged)
 
 -- the plain form without its line for Te
-abbrev pub withoutTe : Plan → List ℕ → List ℕ → List ℕ
-withoutTe plan blocks damaged =
-    endText (bytes "caller   ") plan 1 ++ endText (bytes "\nanswerer ") plan 2 ++ (bytes "\ncall     " ++ functionName (plan .function)) ++ octetsText 0 blocks ++ damageText damaged ++ bytes "\n"
+abbrev pub withoutTe : Plan → List ℕ → List ℕ → List ℕ → List ℕ
+withoutTe plan cm blocks damaged = headText plan cm ++ octetsText (bytes "\nblocks   ") 0 blocks ++ damageText damaged ++ bytes "\n"
 
 -- document 02, Req 01: "Without a value, Te becomes 1,000.": a text that says all of a call but Te is read as that call with a Te of 1,000
 abbrev pub TeIsTheDefault : Type 0
 TeIsTheDefault =
-    (plan : Plan) (blocks damaged : List ℕ) → Good plan → Octets blocks → Marks damaged → plan .te ≡ 1000
-    → IsReadAs plan blocks damaged (withoutTe plan blocks damaged)
+    (plan : Plan) (cm blocks damaged : List ℕ) → Good plan → Given plan cm → Octets blocks → Marks damaged → plan .te ≡ 1000
+    → IsReadAs plan cm blocks damaged (withoutTe plan cm blocks damaged)
 
 -- what any text says, in plain form
 abbrev pub plainOf : List ℕ → List ℕ
-plainOf text = plain (readText text .plan) (blocksIn text) (marked text (replicate 18000 0))
+plainOf text = plain (readText text .plan) (cmIn text) (blocksIn text) (marked text (replicate 18000 0))
 
 -- so what any text says is said again by the plain form of it
 abbrev pub ReadsAgain : Type 0
 ReadsAgain =
     (text : List ℕ) → readText text .what ≡ 0
-    → (readText (plainOf text) .plan ≡ readText text .plan) × (blocksIn (plainOf text) ≡ blocksIn text)
+    → (readText (plainOf text) .plan ≡ readText text .plan) × (cmIn (plainOf text) ≡ cmIn text) × (blocksIn (plainOf text) ≡ blocksIn text)
     × (marked (plainOf text) (replicate 18000 0) ≡ marked text (replicate 18000 0))

@@ -25,9 +25,9 @@ nowhere = 18446744073709551615
 unfoldable pub bitAt : Reading → ℕ → ℕ → List ℕ → ℕ
 bitAt r scan b rest = when (isBit r scan b) (bitPlace (r .end) (number (word (b ∷ rest)))) nowhere
 
--- what stands in the plain form beside names and numbers
+-- what stands in the line of an end beside names
 unfoldable pub texts : List ℕ
-texts = bytes "\ncaller   \nanswerer \ncall     \nTe        , wants LAPM, wants access,"
+texts = bytes "caller   \nanswerer , wants LAPM, wants access,"
 
 -- names of a kind, names of a second kind, and a part of the texts
 abbrev pub written : Piece → List ℕ
@@ -36,7 +36,7 @@ written p = namesOf (p .kind) (p .set) names ++ namesOf (p .after) (p .more) nam
 -- a piece writes a text
 pub record Writes (p : Piece) (text : List ℕ) : Type 0 where
   pub order : p .from ≤ p .to
-  pub within : p .to ≤ 68
+  pub within : p .to ≤ 46
   pub exactly : written p ≡ text
 
 -- the home function; behind it what the end wants, and a comma where something is said of its line
@@ -45,23 +45,22 @@ homeText home said =
     (bytes " home" ++ functionName (home % 8))
     ++ (when (eqb (said % 2) 1) (bytes ", wants LAPM") [] ++ when (eqb (said / 2 % 2) 1) (bytes ", wants access") [] ++ when (ltb 0 (said / 4 % 4)) (bytes ",") [])
 
--- what a piece writes
-unfoldable pub pieceText : Plan → ℕ → List ℕ
-pieceText plan i =
-    let set = setAt plan ((i + 7) / 8) i in
-    when (eqb i 0) (bytes "caller   ")
-    (when (eqb i 7) (homeText set (setAt plan 1 0))
-    (when (eqb i 8) (namesOf quality set names ++ bytes "\nanswerer ")
-    (when (eqb i 15) (homeText set (setAt plan 2 0))
-    (when (eqb i 16) (namesOf quality set names ++ bytes "\ncall     ")
-    (when (eqb i 17) (functionName (plan .function) ++ bytes "\nTe        ")
-    (when (eqb i 18) (bytes "\n")
-    (functionText (i % 8) set)))))))
+-- the front of an end's line
+abbrev pub frontOf : ℕ → List ℕ
+frontOf end = when (eqb end 1) (bytes "caller   ") (bytes "\nanswerer ")
+
+-- what a piece of an end's line writes: its front, its functions, its home function, what its line is
+unfoldable pub pieceText : Plan → ℕ → ℕ → List ℕ
+pieceText plan end k =
+    when (eqb k 0) (frontOf end)
+    (when (eqb k 7) (homeText (setAt plan end k) (setAt plan end 0))
+    (when (eqb k 8) (namesOf quality (setAt plan end k) names)
+    (functionText k (setAt plan end k))))
 
 -- so many pieces from one on
-unfoldable pub piecesText : Plan → ℕ → ℕ → List ℕ
-piecesText plan i zero = []
-piecesText plan i (suc count) = pieceText plan i ++ piecesText plan (i + 1) count
+unfoldable pub piecesText : Plan → ℕ → ℕ → ℕ → List ℕ
+piecesText plan end k zero = []
+piecesText plan end k (suc count) = pieceText plan end k ++ piecesText plan end (k + 1) count
 
 -- the fronts of lines for damaged bits and for blocks, with a blank behind each
 unfoldable pub fronts : List ℕ

@@ -9,7 +9,7 @@ use Rattle.printing.specs.Page.{hexOctet}
 use Rattle.names.specs.Bytes.{bytes}
 use Rattle.names.specs.Names.{function, mode, quality, names, namesOf}
 use Rattle.plans.specs.declared.Plan.{Plan}
-use Rattle.plans.specs.Reading.{home, setAt, added}
+use Rattle.plans.specs.Reading.{home, stranger, setAt, added, isStranger}
 
 -- the name of a function, behind a blank
 abbrev pub functionName : ℕ → List ℕ
@@ -45,10 +45,10 @@ entryFront front count = when (eqb (count % 16) 0) front [] ++ bytes " "
 abbrev pub entryText : List ℕ → ℕ → List ℕ → List ℕ
 entryText front count entry = entryFront front count ++ entry
 
--- the octets of the blocks, behind so many others
-unfoldable pub octetsText : ℕ → List ℕ → List ℕ
-octetsText count [] = []
-octetsText count (b ∷ rest) = entryText (bytes "\nblocks   ") count (hexOctet b) ++ octetsText (count + 1) rest
+-- octets, behind so many others
+unfoldable pub octetsText : List ℕ → ℕ → List ℕ → List ℕ
+octetsText front count [] = []
+octetsText front count (b ∷ rest) = entryText front count (hexOctet b) ++ octetsText front (count + 1) rest
 
 -- a damaged bit
 abbrev pub bitText : List ℕ → ℕ → ℕ → List ℕ
@@ -65,10 +65,21 @@ damageText damaged =
     when (ltb (length damaged) 18000) []
     (bitsText (bytes "\ndamaged   caller") 0 0 (take 9000 damaged) ++ bitsText (bytes "\ndamaged   answerer") 0 0 (take 9000 (drop 9000 damaged)))
 
--- the function called, and Te
-abbrev pub callText : ℕ → ℕ → List ℕ
-callText function te = bytes "\ncall     " ++ functionName function ++ bytes "\nTe        " ++ decimal te
+-- the line of the caller: what is said of it, or the CM that a stranger sends, whose octets stand in one line without further fronts
+unfoldable pub callerText : Plan → List ℕ → List ℕ
+callerText plan cm = when (isStranger plan) (bytes "caller    sends" ++ octetsText [] 0 cm) (endText (bytes "caller   ") plan 1)
 
-unfoldable pub plain : Plan → List ℕ → List ℕ → List ℕ
-plain plan blocks damaged =
-    endText (bytes "caller   ") plan 1 ++ endText (bytes "\nanswerer ") plan 2 ++ callText (plan .function) (plan .te) ++ octetsText 0 blocks ++ damageText damaged ++ bytes "\n"
+-- the function called, which a stranger says in its CM
+unfoldable pub calledText : ℕ → List ℕ
+calledText function = when (eqb function stranger) [] (bytes "\ncall     " ++ functionName function)
+
+-- all that is said of the ends and of the call but Te
+abbrev pub headText : Plan → List ℕ → List ℕ
+headText plan cm = callerText plan cm ++ endText (bytes "\nanswerer ") plan 2 ++ calledText (plan .function)
+
+abbrev pub teText : ℕ → List ℕ
+teText te = bytes "\nTe        " ++ decimal te
+
+-- a plan, with the octets of a CM and of blocks, and with damaged bits
+unfoldable pub plain : Plan → List ℕ → List ℕ → List ℕ → List ℕ
+plain plan cm blocks damaged = headText plan cm ++ teText (plan .te) ++ octetsText (bytes "\nblocks   ") 0 blocks ++ damageText damaged ++ bytes "\n"

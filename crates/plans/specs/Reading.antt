@@ -83,16 +83,24 @@ noCall = 18
 abbrev pub callNotHad : ℕ
 callNotHad = 19
 
--- behind `blocks`, or the mistakes that they do not come: the first octet, further octets
+-- behind `blocks` and `sends`, or the mistakes that they do not come: the first octet, further octets
 abbrev pub firstOctet : ℕ
 firstOctet = 20
 
 abbrev pub octets : ℕ
 octets = 21
 
--- the line for blocks, by the number of its name; no name has a number above 15
-abbrev pub blocksLine : ℕ
-blocksLine = 8
+-- a CM that is given, beside something else that is said of the call
+abbrev pub sendsAlone : ℕ
+sendsAlone = 22
+
+-- the number of the names behind which octets stand: that of the line for blocks, and that of the part for a CM; no name has a number above 15
+abbrev pub octetsBehind : ℕ
+octetsBehind = 8
+
+-- in place of a function: the caller's record is not known, and the text gives its CM; no function has this number
+abbrev pub stranger : ℕ
+stranger = 7
 
 -- a plan of these sets: of each end eight, the caller's first; what it wants and what its line is, then each function's modes, with 0 in the set
 -- where the end has it, and last, as a number, its home function
@@ -157,38 +165,6 @@ nameHome r function = when (ltb 0 (setAt (r .plan) (r .end) home)) (mistaken r t
 unfoldable pub nameMode : Reading → ℕ → Reading
 nameMode r n = when (eqb (r .function) 0) (mistaken r modeFirst) (say r (r .function) n (r .function) (r .first))
 
--- a word of an end's line
-unfoldable pub endWord : Reading → Meaning → Reading
-endWord r m =
-    when (eqb (m .kind) function) (nameFunction r (m .number))
-    (when (eqb (m .kind) mode) (nameMode r (m .number))
-    (when (eqb (m .kind) otherMode) (nameMode r (m .number))
-    (when (eqb (m .kind) quality) (say r 0 (m .number) 0 (r .first))
-    (when (eqb (m .kind) part) (going r (m .number))
-    (mistaken r inEnd)))))
-
--- a line with this name stands in the text already; those for damaged bits and for blocks may stand again
-unfoldable pub isSaid : Plan → ℕ → Bool
-isSaid plan number =
-    when (eqb number afterCall) (ltb 0 (plan .function))
-    (when (eqb number afterTe) (ltb 0 (plan .te))
-    (when (eqb number afterDamaged) false
-    (when (eqb number blocksLine) false (ltb 0 (setAt plan number home)))))
-
-abbrev pub beginNamed : Reading → ℕ → ℕ → ℕ → Reading
-beginNamed r name end context = when (isSaid (r .plan) name) (mistaken r twice) (beginLine r end context)
-
--- what may come next behind the name of a line that is about no end: that has the number of the name, but for blocks
-abbrev pub behindName : ℕ → ℕ
-behindName name = when (eqb name blocksLine) firstOctet name
-
--- the first word of a line
-unfoldable pub firstWord : Reading → Meaning → Reading
-firstWord r m =
-    when (eqb (m .kind) end) (beginNamed r (m .number) (m .number) inEnd)
-    (when (eqb (m .kind) line) (beginNamed r (m .number) 0 (behindName (m .number)))
-    (mistaken r beginning))
-
 -- the caller is known, and the function called, and the caller has not that function
 unfoldable pub lacksCall : Plan → Bool
 lacksCall plan = both (ltb 0 (setAt plan 1 home)) (both (ltb 0 (plan .function)) (eqb (setAt plan 1 (plan .function) % 2) 0))
@@ -203,6 +179,61 @@ planning r function te context = record {
   context = context;
   what = when (lacksCall (planned (r .plan .sets) function te)) callNotHad (r .what);
 }
+
+-- all that is said of an end, as a sum: 0 where nothing is
+abbrev pub allSaid : Plan → ℕ → ℕ
+allSaid plan end =
+    setAt plan end 0 + setAt plan end 1 + setAt plan end 2 + setAt plan end 3 + setAt plan end 4 + setAt plan end 5 + setAt plan end 6 + setAt plan end 7
+
+-- in the caller's line, with nothing said of the caller, and no function called
+abbrev pub nothingYet : Reading → Bool
+nothingYet r = both (eqb (r .end) 1) (both (eqb (allSaid (r .plan) 1) 0) (eqb (r .plan .function) 0))
+
+-- a CM that is given stands alone
+abbrev pub nameCm : Reading → Reading
+nameCm r = when (nothingYet r) (planning r stranger (r .plan .te) firstOctet) (mistaken r sendsAlone)
+
+-- a part of an end's line: what may come next has the number of its name, but for a CM
+unfoldable pub partWord : Reading → ℕ → Reading
+partWord r part = when (eqb part octetsBehind) (nameCm r) (going r part)
+
+-- a word of an end's line
+unfoldable pub endWord : Reading → Meaning → Reading
+endWord r m =
+    when (eqb (m .kind) function) (nameFunction r (m .number))
+    (when (eqb (m .kind) mode) (nameMode r (m .number))
+    (when (eqb (m .kind) otherMode) (nameMode r (m .number))
+    (when (eqb (m .kind) quality) (say r 0 (m .number) 0 (r .first))
+    (when (eqb (m .kind) part) (partWord r (m .number))
+    (mistaken r inEnd)))))
+
+-- the caller's CM is given
+abbrev pub isStranger : Plan → Bool
+isStranger plan = eqb (plan .function) stranger
+
+-- a line with this name stands in the text already; those for damaged bits and for blocks may stand again
+unfoldable pub isSaid : Plan → ℕ → Bool
+isSaid plan number =
+    when (eqb number afterCall) (ltb 0 (plan .function))
+    (when (eqb number afterTe) (ltb 0 (plan .te))
+    (when (eqb number afterDamaged) false
+    (when (eqb number octetsBehind) false
+    (when (eqb number 1) (either (isStranger plan) (ltb 0 (setAt plan number home)))
+    (ltb 0 (setAt plan number home))))))
+
+abbrev pub beginNamed : Reading → ℕ → ℕ → ℕ → Reading
+beginNamed r name end context = when (isSaid (r .plan) name) (mistaken r twice) (beginLine r end context)
+
+-- what may come next behind the name of a line that is about no end: that has the number of the name, but for blocks
+abbrev pub behindName : ℕ → ℕ
+behindName name = when (eqb name octetsBehind) firstOctet name
+
+-- the first word of a line
+unfoldable pub firstWord : Reading → Meaning → Reading
+firstWord r m =
+    when (eqb (m .kind) end) (beginNamed r (m .number) (m .number) inEnd)
+    (when (eqb (m .kind) line) (beginNamed r (m .number) 0 (behindName (m .number)))
+    (mistaken r beginning))
 
 abbrev pub nameCall : Reading → ℕ → Reading
 nameCall r function = planning r function (r .plan .te) done
@@ -375,18 +406,29 @@ markedFrom r scan (b ∷ rest) damaged = markedFrom (readByte r scan b rest) (sc
 unfoldable pub marked : List ℕ → List ℕ → List ℕ
 marked text damaged = when (eqb (readText text .what) 0) (markedFrom fresh between text damaged) damaged
 
--- the octet of the blocks that stands at a byte, or none
-abbrev pub octetAt : Reading → ℕ → ℕ → List ℕ → ℕ
-octetAt r scan b rest = when (both (beginsWord scan b) (atOctets r)) (octet (word (b ∷ rest))) noOctet
+-- an octet of an end's line stands at a byte, or one of a line that is about none
+abbrev pub isOctet : ℕ → Reading → ℕ → ℕ → Bool
+isOctet end r scan b = both (both (beginsWord scan b) (atOctets r)) (eqb (r .end) end)
+
+-- which it is, or none
+abbrev pub octetAt : ℕ → Reading → ℕ → ℕ → List ℕ → ℕ
+octetAt end r scan b rest = when (isOctet end r scan b) (octet (word (b ∷ rest))) noOctet
 
 -- a list of one octet, and an empty list where there is none
 abbrev pub oneOctet : ℕ → List ℕ
 oneOctet n = when (ltb n noOctet) (n ∷ []) []
 
-unfoldable pub octetsFrom : Reading → ℕ → List ℕ → List ℕ
-octetsFrom r scan [] = []
-octetsFrom r scan (b ∷ rest) = oneOctet (octetAt r scan b rest) ++ octetsFrom (readByte r scan b rest) (scanAfter scan b) rest
+unfoldable pub octetsFrom : ℕ → Reading → ℕ → List ℕ → List ℕ
+octetsFrom end r scan [] = []
+octetsFrom end r scan (b ∷ rest) = oneOctet (octetAt end r scan b rest) ++ octetsFrom end (readByte r scan b rest) (scanAfter scan b) rest
 
--- the octets of the caller's blocks, of a text that is a plan
-unfoldable pub blocksIn : List ℕ → List ℕ
-blocksIn text = when (eqb (readText text .what) 0) (octetsFrom fresh between text) []
+-- the octets of an end's line, or of lines about none, in a text that is a plan
+unfoldable pub octetsIn : ℕ → List ℕ → List ℕ
+octetsIn end text = when (eqb (readText text .what) 0) (octetsFrom end fresh between text) []
+
+-- the octets of the caller's blocks, and those of the CM that a stranger sends
+abbrev pub blocksIn : List ℕ → List ℕ
+blocksIn text = octetsIn 0 text
+
+abbrev pub cmIn : List ℕ → List ℕ
+cmIn text = octetsIn 1 text

@@ -7,6 +7,10 @@
 //     blocks    05 B5 01 41 31 30
 //     damaged   caller 485 609
 //
+// Of a stranger, whose record nobody knows, the caller's line gives CM as it is, and no function is called:
+//
+//     caller    sends C1 45
+//
 // Words stand apart by blanks, tabs and commas, in upper or lower case; # begins a comment. The lines may come in any order.
 use items::Item;
 use records::Modes;
@@ -19,9 +23,9 @@ ghost use Rattle.laws.specs.Logic.{when, both};
 ghost use Rattle.laws.specs.Front.{front};
 ghost use Rattle.printing.specs.Page.{page, typed};
 ghost use Rattle.plans.specs.Text.{wordLength, number, hexValue, octet, linesBefore, wordAt};
-ghost use Rattle.plans.specs.Reading.{mistaken, going, place, setAt, store, added, say, firstOf, isSaid, beginNamed, behindName, lacksCall, planning, nameWord, teWord, bitWord, listed, oneOf, readWord, modesOf, recordOf, recordMistake, withHome, finishEnd, finishLine, between, scanAfter, beginsWord, readByte, noPlan, fresh, answer, finished, readText, bitPlace, marked, octetAt, blocksIn, afterTe, callNotHad};
-ghost use Rattle.plans.specs.Plain.{functionText, entryFront, octetsText, bitsText, plain};
-ghost use Rattle.plans.specs.Inner.{Writes, homeText, pieceText, piecesText, Front, frontText, lacking, bitAt};
+ghost use Rattle.plans.specs.Reading.{mistaken, going, place, setAt, store, added, say, firstOf, isSaid, beginNamed, behindName, lacksCall, planning, allSaid, nothingYet, partWord, nameWord, teWord, bitWord, listed, oneOf, readWord, modesOf, recordOf, recordMistake, withHome, finishEnd, finishLine, between, scanAfter, beginsWord, readByte, noPlan, fresh, answer, finished, readText, bitPlace, marked, octetAt, octetsIn, afterTe, callNotHad};
+ghost use Rattle.plans.specs.Plain.{functionText, endText, entryFront, octetsText, bitsText, callerText, calledText, headText, teText, plain};
+ghost use Rattle.plans.specs.Inner.{Writes, homeText, frontOf, pieceText, Front, frontText, lacking, bitAt};
 ghost use Rattle.steps.specs.Session.{defaultTe};
 
 // How long a call is rehearsed, in bits of 300 a second: 30 seconds.
@@ -71,13 +75,24 @@ pub const NO_CALL: u8 = 18;
 
 pub const CALL_NOT_HAD: u8 = 19;
 
-// Behind `blocks`: the first octet and further octets, as what may come next and as what is missing.
+// Behind `blocks` and `sends`: the first octet and further octets, as what may come next and as what is missing.
 pub const FIRST_OCTET: u8 = 20;
 
 pub const OCTETS: u8 = 21;
 
-// The line for blocks, by the number of its name: names have numbers below 16.
-const BLOCKS_LINE: u8 = 8;
+// The mistake that a CM is given, and something else is said of the caller or of the call.
+pub const SENDS_ALONE: u8 = 22;
+
+// The number of the names behind which octets stand, of the line for blocks and of the part for a CM: names have numbers below 16.
+const OCTETS_BEHIND: u8 = 8;
+
+// In place of a function: the caller's record is not known, and the text gives its CM.
+pub const STRANGER: u8 = 7;
+
+// Whose octets a text gives: those of blocks stand in lines that are about no end, those of a CM in the line of the caller.
+pub const OF_BLOCKS: u8 = 0;
+
+pub const OF_CM: u8 = steps::CALLER;
 
 // What a word may name where: the kind of what it names, times 256, and what may come next.
 const END_AT_BEGIN: u16 = 256 * names::END as u16 + BEGIN as u16;
@@ -366,7 +381,8 @@ fn is_said(plan: Plan, number: u8) -> bool
         AFTER_CALL => 0 < plan.function,
         AFTER_TE => 0 < plan.te,
         AFTER_DAMAGED => false,
-        BLOCKS_LINE => false,
+        OCTETS_BEHIND => false,
+        steps::CALLER => plan.function == STRANGER || 0 < set_at(plan, number, HOME),
         _ => 0 < set_at(plan, number, HOME),
     }
 }
@@ -394,7 +410,7 @@ fn behind_name(name: u8) -> u8
     ensures { λ r. ⌜ r ≡ behindName name ⌝ }
 {
     match name {
-        BLOCKS_LINE => FIRST_OCTET,
+        OCTETS_BEHIND => FIRST_OCTET,
         _ => name,
     }
 }
@@ -432,6 +448,40 @@ fn planning(r: Reading, function: u8, te: u16, context: u8) -> Reading
     }
 }
 
+// All that is said of an end, as a sum: 0 where nothing is.
+fn all_said(plan: Plan, end: u8) -> u32
+    ensures { λ r. ⌜ r ≡ allSaid plan end ⌝ }
+{
+    set_at(plan, end, 0) as u32
+        + set_at(plan, end, 1) as u32
+        + set_at(plan, end, 2) as u32
+        + set_at(plan, end, 3) as u32
+        + set_at(plan, end, 4) as u32
+        + set_at(plan, end, 5) as u32
+        + set_at(plan, end, 6) as u32
+        + set_at(plan, end, 7) as u32
+}
+
+// Whether the line is that of the caller, of which nothing is said yet, and no function is called.
+fn nothing_yet(r: Reading) -> bool
+    ensures { λ t. ⌜ t ≡ nothingYet r ⌝ }
+{
+    r.end == steps::CALLER && (all_said(r.plan, steps::CALLER) == 0 && r.plan.function == 0)
+}
+
+// A part of an end's line: what may come next has the number of its name. A CM that is given stands alone.
+fn part_word(r: Reading, part: u8) -> Reading
+    ensures { λ next. ⌜ next ≡ partWord r part ⌝ }
+{
+    if part != OCTETS_BEHIND {
+        return going(r, part, r.what);
+    }
+    if nothing_yet(r) {
+        return planning(r, STRANGER, r.plan.te, FIRST_OCTET);
+    }
+    going(r, r.context, SENDS_ALONE)
+}
+
 // A word that names something: what may come next and the kind of what it names decide.
 fn name_word(r: Reading, kind: u8, n: u8) -> Reading
     ensures { λ next. ⌜ next ≡ nameWord r (record { kind = kind; number = n }) ⌝ }
@@ -446,7 +496,7 @@ fn name_word(r: Reading, kind: u8, n: u8) -> Reading
             say(r, r.function, n, r.function, r.first)
         }
         QUALITY_IN_END | WANTED_AFTER_WANTS => say(r, 0, n, 0, r.first),
-        PART_IN_END => going(r, n, r.what),
+        PART_IN_END => part_word(r, n),
         END_AT_BEGIN => begin_named(r, n, n, IN_END),
         LINE_AT_BEGIN => begin_named(r, n, 0, behind_name(n)),
         FUNCTION_AFTER_HOME => {
@@ -736,11 +786,14 @@ fn bit_at(r: Reading, scan: u8, text: &[u8], i: usize) -> usize
     NOWHERE
 }
 
-// The octet of the blocks that stands at a byte of a text, where one does.
-fn octet_at(r: Reading, scan: u8, text: &[u8], i: usize) -> u32
+// The octet that stands at a byte of a text, in the line of an end or in one that is about none, where one does.
+fn octet_at(end: u8, r: Reading, scan: u8, text: &[u8], i: usize) -> u32
     requires { ⌜ i < length (now text) ⌝ }
-    ensures { λ n. ⌜ n ≡ octetAt r scan (getD (now (text .entry)) i 0) (drop (i + 1) (now (text .entry))) ⌝ }
+    ensures { λ n. ⌜ n ≡ octetAt end r scan (getD (now (text .entry)) i 0) (drop (i + 1) (now (text .entry))) ⌝ }
 {
+    if r.end != end {
+        return NO_OCTET;
+    }
     if begins_entry(scan, text[i], r.context, FIRST_OCTET, OCTETS) {
         return octet(word_at(text, i));
     }
@@ -775,10 +828,10 @@ pub fn mark(text: &[u8], damaged: &mut [u8])
     }
 }
 
-// Writes the octets of the caller's blocks, of a text that is a plan, as far as there is room, and answers how many the text gives.
-pub fn put_blocks(text: &[u8], out: &mut [u8]) -> usize
-    ensures count { λ r. ⌜ r ≡ length (blocksIn (now (text .entry))) ⌝ }
-    ensures octets { λ r. ⌜ now (out .exit) ≡ front (take (length (now (out .entry))) (blocksIn (now (text .entry)))) (now (out .entry)) ⌝ }
+// Writes the octets of blocks or of a CM, of a text that is a plan, as far as there is room, and answers how many the text gives.
+pub fn put_octets_of(text: &[u8], end: u8, out: &mut [u8]) -> usize
+    ensures count { λ r. ⌜ r ≡ length (octetsIn end (now (text .entry))) ⌝ }
+    ensures octets { λ r. ⌜ now (out .exit) ≡ front (take (length (now (out .entry))) (octetsIn end (now (text .entry)))) (now (out .entry)) ⌝ }
 {
     let call = read(text);
     if call.what != 0 {
@@ -789,7 +842,7 @@ pub fn put_blocks(text: &[u8], out: &mut [u8]) -> usize
     let mut n: usize = 0;
     let mut i: usize = 0;
     while i < text.len() {
-        let b = octet_at(r, scan, text, i);
+        let b = octet_at(end, r, scan, text, i);
         if b < NO_OCTET {
             write_at(out, n, b as u8);
             n += 1;
@@ -826,28 +879,22 @@ pub fn lines_before(text: &[u8], at: usize) -> usize
     lines
 }
 
-// What the plain form has beside names and numbers: the fronts of its lines, and what an end wants, so that each of these, with a comma
-// behind it or without, and a comma alone are a part.
-const TEXTS: [u8; 68] =
-    *b"\ncaller   \nanswerer \ncall     \nTe        , wants LAPM, wants access,";
+// What the line of an end has beside names: its front, and what the end wants, so that each of these, with a comma behind it or without,
+// and a comma alone are a part.
+const TEXTS: [u8; 46] = *b"caller   \nanswerer , wants LAPM, wants access,";
 
-// Where the parts of it begin: behind the first line feed the caller's front, the other fronts, what is wanted, which begins with a
-// comma; and where that ends.
-const CALLER_FRONT: usize = 1;
+// Where the parts of it begin: the fronts, what is wanted, which begins with a comma; and where that ends.
+const CALLER_FRONT: usize = 0;
 
-const ANSWERER_FRONT: usize = 10;
+const ANSWERER_FRONT: usize = 9;
 
-const CALL_FRONT: usize = 20;
+const LAPM_WANTED: usize = 19;
 
-const TE_FRONT: usize = 30;
+const BEHIND_COMMA: usize = 20;
 
-const LAPM_WANTED: usize = 41;
+const ACCESS_WANTED: usize = 31;
 
-const BEHIND_COMMA: usize = 42;
-
-const ACCESS_WANTED: usize = 53;
-
-const NO_MORE_WANTED: usize = 67;
+const NO_MORE_WANTED: usize = 45;
 
 // The set that holds the name 'home' alone.
 const HOME_NAMED: u16 = 8;
@@ -866,10 +913,8 @@ const BLOCKS_LINES: usize = 38;
 
 const BLOCKS_BLANK: usize = 48;
 
-// How many pieces the plain form has beside Te, blocks and damaged bits, which stand before the last.
-const LAST_PIECE: u8 = 18;
-
-const PIECES: u8 = 19;
+// How many pieces the line of an end has.
+const PIECES: u8 = 9;
 
 // A piece of the plain form: the names of a kind whose numbers are in a set, after them more of another kind, and a part of TEXTS.
 struct Piece {
@@ -936,74 +981,64 @@ fn home_piece(home: u16, said: u16) -> Piece
     }
 }
 
-// The pieces, with the line feed behind all of them as the last: of each end its functions, its home function, what its line is.
-fn piece_at(plan: Plan, i: u8) -> Piece
-    requires { ⌜ i < 19 ⌝ }
-    ensures { λ r. ⌜ Writes r (pieceText plan i) ⌝ }
+// The front of an end's line; that of the answerer begins a new one.
+fn front_piece(end: u8) -> Piece
+    ensures { λ r. ⌜ Writes r (frontOf end) ⌝ }
 {
-    let set = set_at(plan, (i + 7) / 8, i);
-    match i {
-        0 => Piece {
+    if end == steps::CALLER {
+        return Piece {
             kind: names::NOTHING,
             set: 0,
             after: names::NOTHING,
             more: 0,
             from: CALLER_FRONT,
             to: ANSWERER_FRONT,
-        },
-        7 => home_piece(set, set_at(plan, steps::CALLER, 0)),
+        };
+    }
+    Piece {
+        kind: names::NOTHING,
+        set: 0,
+        after: names::NOTHING,
+        more: 0,
+        from: ANSWERER_FRONT,
+        to: LAPM_WANTED,
+    }
+}
+
+// The pieces of an end's line: its front, its functions, its home function, what its line is.
+fn piece_at(plan: Plan, end: u8, k: u8) -> Piece
+    ensures { λ r. ⌜ Writes r (pieceText plan end k) ⌝ }
+{
+    let set = set_at(plan, end, k);
+    match k {
+        0 => front_piece(end),
+        7 => home_piece(set, set_at(plan, end, 0)),
         8 => Piece {
             kind: names::QUALITY,
             set: set,
             after: names::NOTHING,
             more: 0,
-            from: ANSWERER_FRONT,
-            to: CALL_FRONT,
-        },
-        15 => home_piece(set, set_at(plan, steps::ANSWERER, 0)),
-        16 => Piece {
-            kind: names::QUALITY,
-            set: set,
-            after: names::NOTHING,
-            more: 0,
-            from: CALL_FRONT,
-            to: TE_FRONT,
-        },
-        17 => Piece {
-            kind: names::FUNCTION,
-            set: added(0, plan.function),
-            after: names::NOTHING,
-            more: 0,
-            from: TE_FRONT,
-            to: LAPM_WANTED,
-        },
-        18 => Piece {
-            kind: names::NOTHING,
-            set: 0,
-            after: names::NOTHING,
-            more: 0,
             from: 0,
-            to: CALLER_FRONT,
+            to: 0,
         },
-        _ => function_piece(i % 8, set),
+        _ => function_piece(k, set),
     }
 }
 
-// The pieces from one to another.
-fn put_pieces(out: &mut [u8], at: usize, plan: Plan, first: u8, last: u8) -> usize
-    requires { ⌜ last ≤ 19 ⌝ }
-    ensures { λ r. ⌜ page (now (out .exit)) r ≡ typed (page (now (out .entry)) at) (piecesText plan first (last - first)) ⌝ }
+// The line of an end of which something is said.
+fn put_end(out: &mut [u8], at: usize, plan: Plan, end: u8) -> usize
+    ensures { λ r. ⌜ page (now (out .exit)) r ≡ typed (page (now (out .entry)) at) (endText (frontOf end) plan end) ⌝ }
 {
     let mut n = at;
-    let mut i = first;
-    while i < last {
-        let p = piece_at(plan, i);
+    let mut k: u8 = 0;
+    while k < PIECES {
+        let p = piece_at(plan, end, k);
         let from = p.from;
         let to = p.to;
         n = names::put_names(out, n, p.kind, p.set);
         n = names::put_names(out, n, p.after, p.more);
         n = printing::put_text(out, n, &TEXTS[from..to]);
-        i += 1;
+        k += 1;
     }
     n
 }
@@ -1057,28 +1092,75 @@ fn put_bits(
     n
 }
 
-// The octets of the blocks; in each line sixteen, behind its front.
-fn put_octets(out: &mut [u8], at: usize, blocks: &[u8]) -> usize
-    ensures { λ r. ⌜ page (now (out .exit)) r ≡ typed (page (now (out .entry)) at) (octetsText 0 (now (blocks .entry))) ⌝ }
+// Octets; in each line sixteen, behind its front.
+fn put_octets(out: &mut [u8], at: usize, front: usize, blank: usize, octets: &[u8]) -> usize
+    requires { ⌜ Front front blank ⌝ }
+    ensures { λ r. ⌜ page (now (out .exit)) r ≡ typed (page (now (out .entry)) at) (octetsText (frontText front blank) 0 (now (octets .entry))) ⌝ }
 {
     let mut n = at;
     let mut i: usize = 0;
-    while i < blocks.len() {
-        n = put_front(out, n, BLOCKS_LINES, BLOCKS_BLANK, i);
-        n = printing::put_octet(out, n, blocks[i]);
+    while i < octets.len() {
+        n = put_front(out, n, front, blank, i);
+        n = printing::put_octet(out, n, octets[i]);
         i += 1;
     }
     n
 }
 
+// The line of the caller. A stranger's CM is not parted into lines: its octets have a blank before each, and no front.
+fn put_caller(out: &mut [u8], at: usize, plan: Plan, cm: &[u8]) -> usize
+    ensures { λ r. ⌜ page (now (out .exit)) r ≡ typed (page (now (out .entry)) at) (callerText plan (now (cm .entry))) ⌝ }
+{
+    if plan.function == STRANGER {
+        let n = printing::put_text(out, at, b"caller    sends");
+        return put_octets(out, n, BLOCKS_BLANK, BLOCKS_BLANK, cm);
+    }
+    put_end(out, at, plan, steps::CALLER)
+}
+
+// The line for the function called, which a stranger says in its CM.
+fn put_called(out: &mut [u8], at: usize, function: u8) -> usize
+    ensures { λ r. ⌜ page (now (out .exit)) r ≡ typed (page (now (out .entry)) at) (calledText function) ⌝ }
+{
+    if function == STRANGER {
+        return at;
+    }
+    let n = printing::put_text(out, at, b"\ncall     ");
+    names::put_names(out, n, names::FUNCTION, added(0, function))
+}
+
+// All that is said of the ends and of the call but Te.
+fn put_head(out: &mut [u8], at: usize, plan: Plan, cm: &[u8]) -> usize
+    ensures { λ r. ⌜ page (now (out .exit)) r ≡ typed (page (now (out .entry)) at) (headText plan (now (cm .entry))) ⌝ }
+{
+    let mut n = put_caller(out, at, plan, cm);
+    n = put_end(out, n, plan, steps::ANSWERER);
+    put_called(out, n, plan.function)
+}
+
+// The line for Te.
+fn put_te(out: &mut [u8], at: usize, te: u16) -> usize
+    ensures { λ r. ⌜ page (now (out .exit)) r ≡ typed (page (now (out .entry)) at) (teText te) ⌝ }
+{
+    let n = printing::put_text(out, at, b"\nTe        ");
+    printing::put_decimal(out, n, te as u64)
+}
+
 // A plan in its plain form: a text that is read as this plan, with every default written out.
-pub fn put_plan(out: &mut [u8], at: usize, plan: Plan, blocks: &[u8], damaged: &[u8]) -> usize
-    ensures { λ r. ⌜ page (now (out .exit)) r ≡ typed (page (now (out .entry)) at) (plain plan (now (blocks .entry)) (now (damaged .entry))) ⌝ }
+pub fn put_plan(
+    out: &mut [u8],
+    at: usize,
+    plan: Plan,
+    cm: &[u8],
+    blocks: &[u8],
+    damaged: &[u8],
+) -> usize
+    ensures { λ r. ⌜ page (now (out .exit)) r ≡ typed (page (now (out .entry)) at) (plain plan (now (cm .entry)) (now (blocks .entry)) (now (damaged .entry))) ⌝ }
 {
     let times = BIT_TIMES * (BITS_OF_BOTH <= damaged.len()) as usize;
-    let mut n = put_pieces(out, at, plan, 0, LAST_PIECE);
-    n = printing::put_decimal(out, n, plan.te as u64);
-    n = put_octets(out, n, blocks);
+    let mut n = put_head(out, at, plan, cm);
+    n = put_te(out, n, plan.te);
+    n = put_octets(out, n, BLOCKS_LINES, BLOCKS_BLANK, blocks);
     n = put_bits(out, n, 0, CALLER_BLANK, damaged, 0, times);
     n = put_bits(
         out,
@@ -1089,5 +1171,5 @@ pub fn put_plan(out: &mut [u8], at: usize, plan: Plan, blocks: &[u8], damaged: &
         times,
         times,
     );
-    put_pieces(out, n, plan, LAST_PIECE, PIECES)
+    printing::put_text(out, n, b"\n")
 }

@@ -253,6 +253,12 @@ pub fn chosen(session: Session, choice: u8, now: u32) {
     tell(now, session.end, REPORTS + line::AGREED, text);
 }
 
+// A CM is not answered, by the number of the refusal among the reports.
+pub fn not_answered(session: Session, refusal: u8, now: u32) {
+    let text = put_words(put_words(blank(), words::NO_JM, 0), words::HEARD, refusal);
+    tell(now, session.end, wrapping_add_u8(REPORTS, refusal), text);
+}
+
 // A part of octets, or none where they end before it.
 fn part_of(octets: &[u8], span: Span) -> &[u8] {
     let from = span.place;

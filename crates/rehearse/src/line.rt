@@ -5,6 +5,7 @@ use listening::Heard;
 use listening::Listener;
 use octets::Kind;
 use plans::Plan;
+use refusals::Refusal;
 use refusals::Wrote;
 use steps::Session;
 
@@ -57,6 +58,14 @@ pub const MENU: u8 = 2;
 pub const AGREED: u8 = 3;
 
 pub const CJ: u8 = 4;
+
+// A CM that is not answered, with the number of the refusal; no report has a number from here on.
+const NOT_ANSWERED: u8 = 32;
+
+// A refusal among the reports.
+pub fn refused(refusal: Refusal) -> u8 {
+    CJ + refusals::refusal_number(refusal) % 16
+}
 
 // A call starts, with nothing made or heard.
 pub fn line_start(session: Session, plan: Plan) -> Line {
@@ -193,17 +202,33 @@ fn line_chosen(line: Line, event: u8, choice: u8, now: u32) -> Line {
     line_step(next, event, choice, now)
 }
 
-// A CM to answer with the JM for it. A good record and an agreed menu are not refused.
+// A CM for which no JM can be made, as where that would be too long: the session gets no event. Not told again for the next copy.
+fn line_not_answered(line: Line, refusal: u8, now: u32) -> Line {
+    let told = std::num::wrapping_add_u8(NOT_ANSWERED, refusal);
+    if told != line.told {
+        ladder::not_answered(line.session, refusal, now);
+    }
+    let mut next = line;
+    next.told = told;
+    next
+}
+
+// A CM to answer with the JM for it.
 fn hear_cm(line: Line, cm: &[u8], now: u32) -> Line {
     let own = plans::record_of(line.plan, steps::ANSWERER);
     let mut octets = [0u8; MOST_OCTETS];
-    let len = count_of(offers::make_jm(own, cm, &mut octets));
-    let choice = choose(cm, menu_part(&octets, len));
-    let jm = Made {
-        octets: octets,
-        len: len,
-    };
-    line_chosen(with_menu(line, jm), steps::AGREED_CM, choice, now)
+    let wrote = offers::make_jm(own, cm, &mut octets);
+    match wrote {
+        Wrote::Count(len) => {
+            let choice = choose(cm, menu_part(&octets, len));
+            let jm = Made {
+                octets: octets,
+                len: len,
+            };
+            line_chosen(with_menu(line, jm), steps::AGREED_CM, choice, now)
+        }
+        Wrote::Refused(refusal) => line_not_answered(line, refused(refusal), now),
+    }
 }
 
 // The answer to the caller's CM.
@@ -245,7 +270,7 @@ fn told_of(report: Heard) -> u8 {
         Heard::Ci => CI,
         Heard::Menu(agreed) => { if agreed { AGREED } else { MENU } }
         Heard::Cj => CJ,
-        Heard::Refused(r) => CJ + refusals::refusal_number(r) % 16,
+        Heard::Refused(r) => refused(r),
     }
 }
 

@@ -1,6 +1,6 @@
 // Rehearses a call: reads a call text, runs both ends over a line of 300 bit/s, and prints the plan as it was understood and a ladder
-// of the call: when each end enters which state, what it sends and hears, and what it goes on with. What is wrong with a text or with its
-// blocks is told in one line, and nothing is rehearsed; where there is no text, what one looks like.
+// of the call: when each end enters which state, what it sends and hears, and what it goes on with. What is wrong with a text, with its
+// blocks or with a CM that it gives is told in one line, and nothing is rehearsed; where there is no text, what one looks like.
 mod ladder;
 mod line;
 mod words;
@@ -11,8 +11,11 @@ use libc::STDOUT_FILENO;
 use line::Line;
 use line::MOST_OCTETS;
 use line::Made;
+use octets::Kind;
+use octets::Purpose;
 use plans::Plan;
 use refusals::Refusal;
+use refusals::Verdict;
 use refusals::Wrote;
 use steps::Session;
 use steps::Started;
@@ -32,11 +35,14 @@ const BIT_TIMES: u32 = plans::BIT_TIMES as u32;
 // How many bytes of a word are shown.
 const MOST_SHOWN: usize = 40;
 
+// Room for a CM that is given: one octet more than a menu has, so that of a longer one too many are kept.
+const MOST_GIVEN: usize = MOST_OCTETS + 1;
+
 // How many bits both ends send.
 const LINE_BITS: usize = 2 * plans::BIT_TIMES;
 
 // How many lines say what a call text looks like.
-const HELP_LINES: u8 = 20;
+const HELP_LINES: u8 = 25;
 
 // Room, with a promise of its length: where a large array is made, its length takes long to prove.
 fn room() -> [u8; ROOM]
@@ -124,9 +130,9 @@ fn put_ladder(plan: Plan, first: Session, cm: Made, damaged: &[u8]) {
 }
 
 // The plan as it was understood.
-fn put_plan(plan: Plan, blocks: &[u8], damaged: &[u8]) {
+fn put_plan(plan: Plan, cm: &[u8], blocks: &[u8], damaged: &[u8]) {
     let mut page = room();
-    let n = plans::put_plan(&mut page, 0, plan, blocks, damaged);
+    let n = plans::put_plan(&mut page, 0, plan, cm, blocks, damaged);
     io::write_all(STDOUT_FILENO, line::part(&page, n));
 }
 
@@ -134,7 +140,8 @@ fn put_plan(plan: Plan, blocks: &[u8], damaged: &[u8]) {
 fn put_call(text: &[u8], plan: Plan, blocks: &[u8], cm: Made) {
     let mut damaged = undamaged();
     plans::mark(text, &mut damaged);
-    put_plan(plan, blocks, &damaged);
+    let octets = cm.octets;
+    put_plan(plan, line::menu_part(&octets, cm.len), blocks, &damaged);
     say(blank());
     let started = steps::start_caller(0, plan.te as u32);
     match started {
@@ -151,12 +158,8 @@ fn unmade(refusal: Refusal) -> Text {
     }
 }
 
-// A plan: its call, where CM can be made with its blocks. A menu has room for fewer octets of blocks than are kept here, so what is cut off
-// changes nothing.
-fn call(text: &[u8], plan: Plan) {
-    let mut octets = [0u8; MOST_OCTETS];
-    let count = plans::put_blocks(text, &mut octets);
-    let blocks = line::menu_part(&octets, ladder::least(count, MOST_OCTETS));
+// The call of a caller that is known, where CM can be made with its blocks.
+fn call_known(text: &[u8], plan: Plan, blocks: &[u8]) {
     let own = plans::record_of(plan, steps::CALLER);
     let mut made = [0u8; MOST_OCTETS];
     let wrote = offers::make_cm(own, plan.function, blocks, &mut made);
@@ -169,6 +172,52 @@ fn call(text: &[u8], plan: Plan) {
             put_call(text, plan, blocks, cm);
         }
         Wrote::Refused(refusal) => say(unmade(refusal)),
+    }
+}
+
+// The CM that a text gives, which has room.
+fn given(text: &[u8]) -> Made {
+    let mut octets = [0u8; MOST_OCTETS];
+    let len = plans::put_octets_of(text, plans::OF_CM, &mut octets);
+    Made {
+        octets: octets,
+        len: len,
+    }
+}
+
+// Why the CM that a text gives cannot be sent.
+fn unsent(refusal: Refusal) -> Text {
+    put_words(
+        put_words(blank(), words::UNSENT, 0),
+        words::HEARD,
+        line::refused(refusal),
+    )
+}
+
+// The call of a stranger, where the CM that the text gives can be sent.
+fn call_given(text: &[u8], plan: Plan) {
+    let mut octets = [0u8; MOST_GIVEN];
+    let count = plans::put_octets_of(text, plans::OF_CM, &mut octets);
+    let cm = line::part(&octets, ladder::least(count, MOST_GIVEN));
+    let verdict = octets::test(Purpose::Writing(Kind::Menu), cm);
+    match verdict {
+        Verdict::Accepted => put_call(text, plan, &octets[0..0], given(text)),
+        Verdict::Refused(refusal) => say(unsent(refusal)),
+    }
+}
+
+// A plan: its call. A menu has room for fewer octets of blocks than are kept here, so what is cut off changes nothing.
+fn call(text: &[u8], plan: Plan) {
+    let mut octets = [0u8; MOST_OCTETS];
+    let count = plans::put_octets_of(text, plans::OF_BLOCKS, &mut octets);
+    let blocks = line::menu_part(&octets, ladder::least(count, MOST_OCTETS));
+    if plan.function != plans::STRANGER {
+        call_known(text, plan, blocks);
+        return;
+    }
+    match count {
+        0 => call_given(text, plan),
+        _ => say(put_words(blank(), words::WITH_BLOCKS, 0)),
     }
 }
 

@@ -48,23 +48,29 @@ pub const REST: u8 = 138;
 
 pub const BAD_FIELD: u8 = 140;
 
-pub const LINE: u8 = 142;
+pub const NO_JM: u8 = 142;
 
-pub const AT_END: u8 = 143;
+pub const LINE: u8 = 143;
 
-pub const BEFORE_WORD: u8 = 144;
+pub const AT_END: u8 = 144;
 
-pub const BEHIND_WORD: u8 = 145;
+pub const BEFORE_WORD: u8 = 145;
 
-pub const MISTAKES: u8 = 146;
+pub const BEHIND_WORD: u8 = 146;
 
-pub const TOO_LONG: u8 = 168;
+pub const MISTAKES: u8 = 147;
 
-pub const UNMADE: u8 = 169;
+pub const TOO_LONG: u8 = 170;
 
-pub const HEADING: u8 = 171;
+pub const UNMADE: u8 = 171;
 
-pub const HELP: u8 = 172;
+pub const WITH_BLOCKS: u8 = 173;
+
+pub const UNSENT: u8 = 174;
+
+pub const HEADING: u8 = 175;
+
+pub const HELP: u8 = 176;
 
 // A text with nothing in it.
 pub fn blank() -> Text {
@@ -287,6 +293,7 @@ the ends differ: the caller
 , rest
  its field is refused with 14
  its field is refused with 15
+ no JM,
 line\x20
 , at its end:\x20
 , '
@@ -311,11 +318,14 @@ the text ends without a line 'caller'
 the text ends without a line 'answerer'
 the text ends without a line 'call'
 the caller has not the function of the call
-expected an octet of the blocks, two hex digits
-expected an octet of the blocks, two hex digits
+expected an octet, two hex digits
+expected an octet, two hex digits
+a CM that is sent as it is stands alone in the line of the caller, and no function is called
 the text is longer than 131071 bytes
 the blocks do not fit into a CM of 64 octets
 the octets are not blocks: a block is longer than what remains, or a code does not fit in it
+a CM that is sent as it is takes no blocks
+the CM that is given cannot be sent,
    ms  caller                                                                         answerer
 A call text says what both ends can do, and what the caller calls for:
 
@@ -330,6 +340,11 @@ in hex digits; and bits that arrive inverted, where bit n is sent n * 10 / 3 ms 
     Te        500
     blocks    05 B5 01 41 31 30
     damaged   caller 485 609
+
+Where the caller is a stranger, its line gives CM as it is, in hex digits. CM says what is called for, so
+there is no line 'call':
+
+    caller    sends C1 45
 
 Lines:\x01\x02
 Functions:\x03

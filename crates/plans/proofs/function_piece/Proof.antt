@@ -16,7 +16,7 @@ added-requires c κs = search needs
 
 returns : tie.Need-returns
 unfolding functionText when
-returns c = writes-as _ _ (two-kinds 41 42 (bytes ",") comma function (c .added .result) mode (c .before .before .args .set)) (simp (c .added .ensures, eq-eqb _ _ (c .before .if1 .taken)))
+returns c = writes-as _ _ (two-kinds 19 20 (bytes ",") comma function (c .added .result) mode (c .before .before .args .set)) (simp (c .added .ensures, eq-eqb _ _ (c .before .if1 .taken)))
 
 returns-2 : tie.Need-returns-2
 unfolding functionText when

@@ -19,13 +19,13 @@ added-requires : tie.Need-added-requires
 added-requires c κs = search needs
 
 add-t10 : tie.Need-add-t10
-add-t10 c = fits-below {n = 101} tt (few 67 (ltb 0 (c .before .args .said / 4 % 4)) (lit≤ tt))
+add-t10 c = fits-below {n = 101} tt (few 45 (ltb 0 (c .before .args .said / 4 % 4)) (lit≤ tt))
 
 add-piece : tie.Need-add-piece
-add-piece c = fits-below {n = 101} tt (few 41 (ltb 0 (c .before .before .args .said / 4 % 4)) (lit≤ tt))
+add-piece c = fits-below {n = 101} tt (few 19 (ltb 0 (c .before .before .args .said / 4 % 4)) (lit≤ tt))
 
 add-piece-2 : tie.Need-add-piece-2
-add-piece-2 c = fits-below {n = 101} tt (few 53 (ltb 0 (c .before .before .args .said / 4 % 4)) (lit≤ tt))
+add-piece-2 c = fits-below {n = 101} tt (few 31 (ltb 0 (c .before .before .args .said / 4 % 4)) (lit≤ tt))
 
 returns : tie.Need-returns
 returns c = let args = c .before .before .args in wants-nothing (args .home) (args .said) _ (c .before .added .ensures) (c .match .keys1)

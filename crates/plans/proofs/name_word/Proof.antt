@@ -41,8 +41,8 @@ say-requires-2 c κs = search needs
 say-requires-3 : tie.Need-say-requires-3
 say-requires-3 c κs = search needs
 
-going-requires-2 : tie.Need-going-requires-2
-going-requires-2 c κs = search needs
+part-word-requires : tie.Need-part-word-requires
+part-word-requires c κs = search needs
 
 begin-named-requires : tie.Need-begin-named-requires
 begin-named-requires c κs = search needs
@@ -56,11 +56,11 @@ begin-named-requires-2 c κs = search needs
 set-at-requires : tie.Need-set-at-requires
 set-at-requires c κs = search needs
 
-going-requires-3 : tie.Need-going-requires-3
-going-requires-3 c κs = search needs
+going-requires-2 : tie.Need-going-requires-2
+going-requires-2 c κs = search needs
 
 returns-2 : tie.Need-returns-2
-returns-2 c = c .going3 .ensures ∙ sym (home-twice (c .before .before .before .before .before .args .r) (meant (c .before .before .before .before .before)) (small (c .before .before .before .before .before)) (c .before .before .before .match .keys7) _ (c .before .before .set-at .ensures) (c .before .if2 .taken))
+returns-2 c = c .going2 .ensures ∙ sym (home-twice (c .before .before .before .before .before .args .r) (meant (c .before .before .before .before .before)) (small (c .before .before .before .before .before)) (c .before .before .before .match .keys7) _ (c .before .before .set-at .ensures) (c .before .if2 .taken))
 
 store-requires : tie.Need-store-requires
 store-requires c κs = search needs
@@ -71,8 +71,8 @@ planning-requires c κs = search needs
 begin-named-requires-3 : tie.Need-begin-named-requires-3
 begin-named-requires-3 c κs = search needs
 
-going-requires-4 : tie.Need-going-requires-4
-going-requires-4 c κs = search needs
+going-requires-3 : tie.Need-going-requires-3
+going-requires-3 c κs = search needs
 
 returns-3 : tie.Need-returns-3
 returns-3 c = c .say .ensures ∙ sym (function-in-end (c .before .before .before .before .args .r) (meant (c .before .before .before .before)) (small (c .before .before .before .before)) (c .before .before .match .keys1) _ (c .before .first-of .ensures))
@@ -84,7 +84,7 @@ returns-5 : tie.Need-returns-5
 returns-5 c = c .say3 .ensures ∙ sym (said (c .before .before .before .args .r) (meant (c .before .before .before)) (small (c .before .before .before)) (c .before .match .keys3))
 
 returns-6 : tie.Need-returns-6
-returns-6 c = c .going2 .ensures ∙ sym (part-in-end (c .before .before .before .args .r) (meant (c .before .before .before)) (small (c .before .before .before)) (c .before .match .keys4))
+returns-6 c = c .part-word .ensures ∙ sym (part-in-end (c .before .before .before .args .r) (meant (c .before .before .before)) (small (c .before .before .before)) (c .before .match .keys4))
 
 returns-7 : tie.Need-returns-7
 returns-7 c = c .begin-named .ensures ∙ sym (end-at-begin (c .before .before .before .args .r) (meant (c .before .before .before)) (small (c .before .before .before)) (c .before .match .keys5))
@@ -102,7 +102,7 @@ returns-11 : tie.Need-returns-11
 returns-11 c = c .begin-named3 .ensures ∙ sym (end-after-damaged (c .before .before .before .args .r) (meant (c .before .before .before)) (small (c .before .before .before)) (c .before .match .keys9))
 
 returns-12 : tie.Need-returns-12
-returns-12 c = let none = c .before .match .rest in c .going4 .ensures ∙ sym (otherwise (c .before .before .before .args .r) (meant (c .before .before .before)) (small (c .before .before .before)) (none .0 .0 .0 .0 .0 .0 .0 .0 .1) (none .0 .0 .0 .0 .0 .0 .0 .1) (none .0 .0 .0 .0 .0 .0 .1) (none .0 .0 .0 .0 .0 .1) (none .0 .0 .0 .0 .1) (none .0 .0 .0 .1) (none .0 .0 .1) (none .0 .1) (none .1))
+returns-12 c = let none = c .before .match .rest in c .going3 .ensures ∙ sym (otherwise (c .before .before .before .args .r) (meant (c .before .before .before)) (small (c .before .before .before)) (none .0 .0 .0 .0 .0 .0 .0 .0 .1) (none .0 .0 .0 .0 .0 .0 .0 .1) (none .0 .0 .0 .0 .0 .0 .1) (none .0 .0 .0 .0 .0 .1) (none .0 .0 .0 .0 .1) (none .0 .0 .0 .1) (none .0 .0 .1) (none .0 .1) (none .1))
 
 pub name-word-spec : {M : Type 1} → statement M
 name-word-spec =
@@ -117,17 +117,17 @@ name-word-spec =
     returns
     say-requires-2
     say-requires-3
-    going-requires-2
+    part-word-requires
     begin-named-requires
     behind-name-requires
     begin-named-requires-2
     set-at-requires
-    going-requires-3
+    going-requires-2
     returns-2
     store-requires
     planning-requires
     begin-named-requires-3
-    going-requires-4
+    going-requires-3
     returns-3
     returns-4
     returns-5

@@ -1,30 +1,29 @@
 -- `plans::put_octets` meets its contract. Invariant: the octets from place i on, typed from here, leave what all of them do.
 -- Assumes nothing.
 use borrow.Author.Needs.{needs}
-use Prim.Native.Nat.{ℕ, _+_, _-_}
+use Prim.Native.Nat.{_+_, _-_}
 use mathlib.Core.Path.{_≡_, refl, sym, ap, _∙_}
-use mathlib.Core.List.{List}
 use lib.ListN.{length, drop}
 use denote.Ref.{now}
 use Rattle.printing.specs.Page.{Page, page, typed}
 use Rattle.printing.proofs.Pages.{typed-then}
-use Rattle.plans.specs.Plain.{entryFront, octetsText}
+use Rattle.plans.specs.Plain.{octetsText}
+use Rattle.plans.specs.Inner.{frontText}
 use Rattle.plans.proofs.Typing.{octet-on, octets-end}
-use Rattle.plans.proofs.Pieces.{blocks-front, blocks-lines}
 use Rattle.plans.proofs.put_octets.Statement.{statement}
 use Rattle.plans.proofs.put_octets.Tie as tie
 
 abbrev Inv-loop : tie.InvT-loop
-Inv-loop out₀ at blocks n₀ i₀ out n i = (typed (page out n) (octetsText i (drop i blocks)) ≡ typed (page out₀ at) (octetsText 0 blocks)) × (length out ≡ length out₀)
+Inv-loop out₀ at front blank octets n₀ i₀ out n i = (typed (page out n) (octetsText (frontText front blank) i (drop i octets)) ≡ typed (page out₀ at) (octetsText (frontText front blank) 0 octets)) × (length out ≡ length out₀)
 
 abbrev μ-loop : tie.MeasureT-loop
-μ-loop out₀ at blocks n₀ i₀ out n i = length blocks - i
+μ-loop out₀ at front blank octets n₀ i₀ out n i = length octets - i
 
 loop-holds : tie.Need-loop-holds Inv-loop μ-loop
 loop-holds c = (refl, refl)
 
 put-front-requires : tie.Need-put-front-requires Inv-loop μ-loop
-put-front-requires c κs = blocks-front
+put-front-requires c κs = c .before .before .before .before .before .pre
 
 shared-slice-read-put-octet : tie.Need-shared-slice-read-put-octet Inv-loop μ-loop
 shared-slice-read-put-octet c = search needs
@@ -41,12 +40,13 @@ loop-less c = search needs
 loop-again : tie.Need-loop-again Inv-loop μ-loop
 loop-again c =
     let at-loop = c .before .before .before .before .before .before .before .before .before .before in
-    let blocks = now (at-loop .before .before .before .args .blocks) in
+    let args = at-loop .before .before .before .args in
+    let octets = now (args .octets) in
+    let front = frontText (args .front) (args .blank) in
     let here = page (at-loop .loop .out) (at-loop .loop .n) in
-    let i = at-loop .loop .i in
-    let front = ap (λ (text : List ℕ). typed here (entryFront text i)) blocks-lines in (
-      ap (λ (p : Page). typed p (octetsText (i + 1) (drop (i + 1) blocks))) (typed-then here _ _ (c .before .before .before .before .before .before .before .put-front .ensures ∙ front) (c .before .before .put-octet .ensures))
-          ∙ sym (octet-on here blocks i (c .before .before .before .before .before .before .before .before .before .loop-test .taken)) ∙ at-loop .loop .inv .0,
+    let i = at-loop .loop .i in (
+      ap (λ (p : Page). typed p (octetsText front (i + 1) (drop (i + 1) octets))) (typed-then here _ _ (c .before .before .before .before .before .before .before .put-front .ensures) (c .before .before .put-octet .ensures))
+          ∙ sym (octet-on here front octets i (c .before .before .before .before .before .before .before .before .before .loop-test .taken)) ∙ at-loop .loop .inv .0,
       search needs,
     )
 
@@ -56,7 +56,8 @@ same-length c = c .before .loop .inv .1
 returns : tie.Need-returns Inv-loop μ-loop
 returns c =
     let at-loop = c .before in
-    sym (octets-end (page (at-loop .loop .out) (at-loop .loop .n)) (now (at-loop .before .before .before .args .blocks)) (at-loop .loop .i) (c .loop-test .left)) ∙ at-loop .loop .inv .0
+    let args = at-loop .before .before .before .args in
+    sym (octets-end (page (at-loop .loop .out) (at-loop .loop .n)) (frontText (args .front) (args .blank)) (now (args .octets)) (at-loop .loop .i) (c .loop-test .left)) ∙ at-loop .loop .inv .0
 
 pub put-octets-spec : {M : Type 1} → statement M
 put-octets-spec =

@@ -1,16 +1,15 @@
--- `plans::put_plan` meets its contract: the pieces, Te, the blocks, the damaged bits and a line feed are the plain form.
+-- `plans::put_plan` meets its contract: the ends and the call, Te, the blocks, the damaged bits and a line feed are the plain form.
 -- Assumes nothing.
 use borrow.Author.Needs.{needs}
 use native.Mathlib.Omega.{arith}
 use mathlib.Core.Path.{ap, _∙_}
-use lib.Dec.{lit≤}
 use lib.ListN.{length}
 use mir.Facts.{fits-below}
 use denote.Ref.{now}
+use Rattle.names.specs.Bytes.{bytes}
 use Rattle.printing.specs.Page.{page, typed}
 use Rattle.printing.proofs.Pages.{typed-then}
-use Rattle.plans.proofs.Numbers.{decimal-typed}
-use Rattle.plans.proofs.Pieces.{caller-bits-front, answerer-bits-front, bits-within, plain-in-pieces}
+use Rattle.plans.proofs.Pieces.{caller-bits-front, answerer-bits-front, blocks-front, bits-within, plain-in-pieces}
 use Rattle.plans.proofs.put_plan.Statement.{statement}
 use Rattle.plans.proofs.put_plan.Tie as tie
 
@@ -18,19 +17,16 @@ cast-times : tie.Need-cast-times
 cast-times c = search needs
 
 mul-times : tie.Need-mul-times
-mul-times c = fits-below {n = 9000} tt (bits-within (length (now (c .before .before .before .args .damaged))) .0)
+mul-times c = fits-below {n = 9000} tt (bits-within (length (now (c .before .before .before .before .args .damaged))) .0)
 
-put-pieces-requires : tie.Need-put-pieces-requires
-put-pieces-requires c κs = lit≤ tt
+put-head-requires : tie.Need-put-head-requires
+put-head-requires c κs = tt
 
-cast-put-decimal : tie.Need-cast-put-decimal
-cast-put-decimal c = search needs
-
-put-decimal-requires : tie.Need-put-decimal-requires
-put-decimal-requires c κs = tt
+put-te-requires : tie.Need-put-te-requires
+put-te-requires c κs = tt
 
 put-octets-requires : tie.Need-put-octets-requires
-put-octets-requires c κs = tt
+put-octets-requires c κs = blocks-front
 
 put-bits-requires : tie.Need-put-bits-requires
 put-bits-requires c κs = let within = bits-within (length (now (c .before .before .before .before .before .before .before .before .before .before .before .before .before .before .before .before .before .args .damaged))) in (caller-bits-front, (within .0, omega (arith, within .1)))
@@ -38,19 +34,23 @@ put-bits-requires c κs = let within = bits-within (length (now (c .before .befo
 put-bits-requires-2 : tie.Need-put-bits-requires-2
 put-bits-requires-2 c κs = let within = bits-within (length (now (c .before .before .before .before .before .before .before .before .before .before .before .before .before .before .before .before .before .before .before .before .before .args .damaged))) in (answerer-bits-front, (within .0, within .1))
 
-put-pieces-requires-2 : tie.Need-put-pieces-requires-2
-put-pieces-requires-2 c κs = lit≤ tt
+slice-aggregate-put-text : tie.Need-slice-aggregate-put-text
+slice-aggregate-put-text c = search needs
+
+put-text-requires : tie.Need-put-text-requires
+put-text-requires c κs = tt
 
 same-length : tie.Need-same-length
 same-length c = search needs
 
 returns : tie.Need-returns
+unfolding bytes
 returns c =
-    let start = c .before .before .before .before .before .before .before .before .before .before .before .before .before .before .before .before .before .before .before .before .before .before .before .before .before .before .before .before in
+    let start = c .before .before .before .before .before .before .before .before .before .before .before .before .before .before .before .before .before .before .before .before .before .before .before .before .before .before .before .before .before in
     let here = page (now (start .args .out)) (start .args .at) in
-    let te = decimal-typed _ _ (start .args .plan .te) (search needs) (c .before .before .before .before .before .before .before .before .before .before .before .before .before .before .before .before .before .before .put-decimal .ensures) in
-    typed-then here _ _ (typed-then here _ _ (typed-then here _ _ (typed-then here _ _ (typed-then here _ _ (c .before .before .before .before .before .before .before .before .before .before .before .before .before .before .before .before .before .before .before .before .before .before .before .put-pieces .ensures) te) (c .before .before .before .before .before .before .before .before .before .before .before .before .before .before .put-octets .ensures)) (c .before .before .before .before .before .before .before .before .before .before .put-bits .ensures)) (c .before .before .before .before .before .before .put-bits2 .ensures)) (c .before .before .put-pieces2 .ensures)
-    ∙ ap (typed here) (plain-in-pieces (start .args .plan) (now (start .args .blocks)) (now (start .args .damaged)))
+    let with-te = typed-then here _ _ (c .before .before .before .before .before .before .before .before .before .before .before .before .before .before .before .before .before .before .before .before .before .before .before .put-head .ensures) (c .before .before .before .before .before .before .before .before .before .before .before .before .before .before .before .before .before .before .before .put-te .ensures) in
+    typed-then here _ _ (typed-then here _ _ (typed-then here _ _ (typed-then here _ _ with-te (c .before .before .before .before .before .before .before .before .before .before .before .before .before .before .before .put-octets .ensures)) (c .before .before .before .before .before .before .before .before .before .before .before .put-bits .ensures)) (c .before .before .before .before .before .before .before .put-bits2 .ensures)) (c .before .before .put-text .ensures)
+    ∙ ap (typed here) (plain-in-pieces (start .args .plan) (now (start .args .cm)) (now (start .args .blocks)) (now (start .args .damaged)))
 
 pub put-plan-spec : {M : Type 1} → statement M
 put-plan-spec =
@@ -58,12 +58,12 @@ put-plan-spec =
     (tie.spec
     cast-times
     mul-times
-    put-pieces-requires
-    cast-put-decimal
-    put-decimal-requires
+    put-head-requires
+    put-te-requires
     put-octets-requires
     put-bits-requires
     put-bits-requires-2
-    put-pieces-requires-2
+    slice-aggregate-put-text
+    put-text-requires
     same-length
     returns)

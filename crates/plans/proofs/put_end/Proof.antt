@@ -1,29 +1,32 @@
--- `plans::put_pieces` meets its contract. Invariant: the pieces from place i on, typed from here, leave what all of them do.
+-- `plans::put_end` meets its contract. Invariant: the pieces from number k on, typed from here, leave what all of them do.
 -- Assumes nothing.
 use borrow.Author.Needs.{needs}
 use Prim.Native.Nat.{_+_, _-_}
 use native.Mathlib.Omega.{arith}
 use mathlib.Core.Path.{_≡_, refl, sym, ap, _∙_}
 use lib.ListN.{length}
+use denote.Ref.{now}
 use Rattle.printing.specs.Page.{Page, page, typed}
 use Rattle.printing.proofs.Pages.{typed-then}
 use Rattle.names.specs.Bytes.{bytes}
-use Rattle.plans.specs.Inner.{texts, piecesText}
+use Rattle.plans.specs.Inner.{texts, frontOf, piecesText}
+use Rattle.plans.specs.Plain.{endText}
+use Rattle.plans.proofs.Pieces.{end-in-pieces}
 use Rattle.plans.proofs.Typing.{pieces-on, pieces-end}
-use Rattle.plans.proofs.put_pieces.Statement.{statement}
-use Rattle.plans.proofs.put_pieces.Tie as tie
+use Rattle.plans.proofs.put_end.Statement.{statement}
+use Rattle.plans.proofs.put_end.Tie as tie
 
 abbrev Inv-loop : tie.InvT-loop
-Inv-loop out₀ at plan first last texts n₀ i₀ out n i = (typed (page out n) (piecesText plan i (last - i)) ≡ typed (page out₀ at) (piecesText plan first (last - first))) × (length out ≡ length out₀)
+Inv-loop out₀ at plan end texts n₀ k₀ out n k = (typed (page out n) (piecesText plan end k (9 - k)) ≡ typed (page out₀ at) (endText (frontOf end) plan end)) × (length out ≡ length out₀)
 
 abbrev μ-loop : tie.MeasureT-loop
-μ-loop out₀ at plan first last texts n₀ i₀ out n i = last - i
+μ-loop out₀ at plan end texts n₀ k₀ out n k = 9 - k
 
 loop-holds : tie.Need-loop-holds Inv-loop μ-loop
-loop-holds c = (refl, refl)
+loop-holds c = let args = c .before .args in (ap (typed (page (now (args .out)) (args .at))) (end-in-pieces (args .plan) (args .end)), refl)
 
 piece-at-requires : tie.Need-piece-at-requires Inv-loop μ-loop
-piece-at-requires c κs = omega (arith, c .loop-test .taken, c .before .before .before .pre)
+piece-at-requires c κs = search needs
 
 put-names-requires : tie.Need-put-names-requires Inv-loop μ-loop
 put-names-requires c κs = tt
@@ -43,8 +46,8 @@ part-put-text-end c = c .before .before .before .before .before .before .before 
 put-text-requires : tie.Need-put-text-requires Inv-loop μ-loop
 put-text-requires c κs = tt
 
-add-i : tie.Need-add-i Inv-loop μ-loop
-add-i c = search needs
+add-k : tie.Need-add-k Inv-loop μ-loop
+add-k c = search needs
 
 loop-less : tie.Need-loop-less Inv-loop μ-loop
 loop-less c = omega (arith, c .before .before .before .before .before .before .before .before .before .before .before .before .before .before .before .loop-test .taken)
@@ -56,8 +59,8 @@ loop-again c =
     let args = at-loop .before .before .args in
     let here = page (at-loop .loop .out) (at-loop .loop .n) in
     let written = typed-then here _ _ (typed-then here _ _ (c .before .before .before .before .before .before .before .before .before .before .before .before .put-names .ensures) (c .before .before .before .before .before .before .before .before .put-names2 .ensures)) (c .before .before .put-text .ensures) in (
-      ap (λ (p : Page). typed p (piecesText (args .plan) (at-loop .loop .i + 1) (args .last - (at-loop .loop .i + 1)))) (written ∙ ap (typed here) (c .before .before .before .before .before .before .before .before .before .before .before .before .before .before .piece-at .ensures .exactly))
-          ∙ sym (pieces-on here (args .plan) (at-loop .loop .i) (args .last) (c .before .before .before .before .before .before .before .before .before .before .before .before .before .before .before .loop-test .taken)) ∙ at-loop .loop .inv .0,
+      ap (λ (p : Page). typed p (piecesText (args .plan) (args .end) (at-loop .loop .k + 1) (9 - (at-loop .loop .k + 1)))) (written ∙ ap (typed here) (c .before .before .before .before .before .before .before .before .before .before .before .before .before .before .piece-at .ensures .exactly))
+          ∙ sym (pieces-on here (args .plan) (args .end) (at-loop .loop .k) 9 (c .before .before .before .before .before .before .before .before .before .before .before .before .before .before .before .loop-test .taken)) ∙ at-loop .loop .inv .0,
       search needs,
     )
 
@@ -68,10 +71,10 @@ returns : tie.Need-returns Inv-loop μ-loop
 returns c =
     let at-loop = c .before in
     let args = at-loop .before .before .args in
-    sym (pieces-end (page (at-loop .loop .out) (at-loop .loop .n)) (args .plan) (at-loop .loop .i) (args .last) (c .loop-test .left)) ∙ at-loop .loop .inv .0
+    sym (pieces-end (page (at-loop .loop .out) (at-loop .loop .n)) (args .plan) (args .end) (at-loop .loop .k) 9 (c .loop-test .left)) ∙ at-loop .loop .inv .0
 
-pub put-pieces-spec : {M : Type 1} → statement M
-put-pieces-spec =
+pub put-end-spec : {M : Type 1} → statement M
+put-end-spec =
     tie.close
     (tie.spec
     Inv-loop
@@ -84,7 +87,7 @@ put-pieces-spec =
     part-put-text-start
     part-put-text-end
     put-text-requires
-    add-i
+    add-k
     loop-less
     loop-again
     same-length
