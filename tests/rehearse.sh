@@ -2,8 +2,8 @@
 # rehearse.sh PROGRAM DIR: runs the rehearsing program on every DIR/NAME.call and compares what it prints, byte for byte,
 # with NAME.timeline, as a file and through a pipe in pieces of odd sizes, and does the same with the plan that stands above
 # each ladder; then on the same call in other words; then on texts that are wrong, each with the one line that it must get;
-# then on calls with blocks, which the answerer tells in words, or which get one line; then on random plans, on every call
-# cut off at every byte and on random bytes, which must get a plan and a ladder or one line, and an end of the program that
+# then on calls with blocks, which the answerer tells in words, or which get one line; then on calls of strangers, whose CM
+# is sent as it is given, or gets one line; then on random plans, on every call cut off at every byte and on random bytes, which must get a plan and a ladder or one line, and an end of the program that
 # is no crash. Prints what differs; exits with 1 on a difference and with 2 where there is nothing to run.
 set -uo pipefail
 
@@ -20,7 +20,7 @@ functions='H.324 textphone videotex fax-sent fax-received data'
 modes='V.34 V.34-half-duplex V.32bis V.22bis V.17 V.29-half-duplex V.27ter V.26ter V.26bis V.23 V.23-half-duplex V.21'
 modes+=' PCM-analogue PCM-digital V.91'
 other_modes='V.32 V.22'
-parts='home wants'
+parts='home wants sends'
 wanted='LAPM access'
 qualities='cellular digital'
 access='caller-cellular answerer-cellular digital-network'
@@ -47,13 +47,18 @@ mistakes=(
     "the text ends without a line 'answerer'"
     "the text ends without a line 'call'"
     'the caller has not the function of the call'
-    'expected an octet of the blocks, two hex digits'
-    'expected an octet of the blocks, two hex digits'
+    'expected an octet, two hex digits'
+    'expected an octet, two hex digits'
+    'a CM that is sent as it is stands alone in the line of the caller, and no function is called'
 )
 
 # Why CM cannot be made with the blocks of a plan.
 too_many='the blocks do not fit into a CM of 64 octets'
 no_blocks='the octets are not blocks: a block is longer than what remains, or a code does not fit in it'
+
+# Why the CM of a stranger is not sent: blocks beside it, or a refusal, whose number follows.
+with_blocks='a CM that is sent as it is takes no blocks'
+unsent='the CM that is given cannot be sent, refusal'
 
 # text TEXT: the input of the next runs, with the escapes of printf %b.
 text() {
@@ -95,6 +100,27 @@ unmade() {
     check "$program" "$1" "$work/input" "$work/expected" "${pieces[@]}"
 }
 
+# unsendable NAME OCTETS LINE: a call of a stranger with these octets for its CM, or with more lines behind them, and the one line that it
+# must get.
+unsendable() {
+    text "$answerer\ncaller sends $2"
+    printf '%s\n' "$3" >"$work/expected"
+    check "$program" "$1" "$work/input" "$work/expected" "${pieces[@]}"
+}
+
+# sends NAME OCTETS ROW: a call of a stranger with these octets for its CM, the plan that must stand above its ladder, and in the ladder
+# what the caller sends, with an arrow behind it, or with its octets in more rows.
+sends() {
+    text "$answerer\ncaller sends $2"
+    "$program" <"$work/input" >"$work/first"
+    printf 'caller    sends %s\nanswerer  data V.32bis V.22bis V.26ter, home data\nTe        1000\n' "${2^^}" >"$work/expected"
+    plan <"$work/first" >"$work/printed"
+    compare "$1" "$work/expected" "${PIPESTATUS[0]}"
+    printf '%s\n' "$3" >"$work/expected"
+    sed -n 's/^ 2000  menu        \(CM[^-]*[^ -]\) *-*>*$/\1/p' "$work/first" >"$work/printed"
+    compare "$1, as it is sent" "$work/expected" 0
+}
+
 # tells NAME LINES ROW..: a call with these lines behind it, and what must stand in rows of the answerer below a CM that it hears: the
 # rows without a time, up to the column of the answerer, from the first on that is no octet of CM.
 tells() {
@@ -121,7 +147,7 @@ survives() {
 # sound: all that `survives` kept is one line, or a plan and a ladder: its rows in columns, at most 100 of them, in the order of time,
 # no blanks at their ends, and how the call ended in the last line.
 sound() {
-    LC_ALL=C awk -v heading="$heading" -v too_many="$too_many" -v no_blocks="$no_blocks" '
+    LC_ALL=C awk -v heading="$heading" -v too_many="$too_many" -v no_blocks="$no_blocks" -v with_blocks="$with_blocks" -v unsent="$unsent" '
         function wrong(why) { printf "%s: %s\n", name, why }
         function ends(line,    choice, ended) {
             choice = " (item [1-9][0-2]? \\(V\\.[^()]*\\)|PCM \\([^()]*\\))"
@@ -131,13 +157,17 @@ sound() {
             if (line ~ "^the ends differ: the caller " ended "; the answerer " ended "$") return 1
             return line == "the call is not over after 30 seconds"
         }
-        function look(    i, row, clock, before) {
+        function look(    i, row, clock, before, stranger) {
             if (name == "" || n == 1 && line[1] ~ /^(line [0-9]+, (at its end|\047.*\047): |the text )./) return
-            if (n == 1 && (line[1] == too_many || line[1] == no_blocks)) return
+            if (n == 1 && (line[1] == too_many || line[1] == no_blocks || line[1] == with_blocks)) return
+            if (n == 1 && index(line[1], unsent " ") == 1 && substr(line[1], length(unsent) + 2) ~ /^[345]$/) return
             for (i = 1; i <= n; i++) if (line[i] ~ /[ \t\r]$/) return wrong("blanks at the end of " line[i])
             if (line[1] !~ /^caller    / || line[2] !~ /^answerer  /) return wrong("no ends: " line[1])
-            if (line[3] !~ /^call      / || line[4] !~ /^Te        [0-9]+$/) return wrong("no call: " line[3])
-            for (i = 5; line[i] ~ /^blocks   ( [0-9A-F][0-9A-F])+$/; i++) ;
+            stranger = line[1] ~ /^caller    sends( [0-9A-F][0-9A-F])+$/
+            if (!stranger && line[3] !~ /^call      /) return wrong("no call: " line[3])
+            i = stranger ? 3 : 4
+            if (line[i] !~ /^Te        [0-9]+$/) return wrong("no Te: " line[i])
+            for (i++; line[i] ~ /^blocks   ( [0-9A-F][0-9A-F])+$/; i++) ;
             for (; line[i] ~ /^damaged   (caller|answerer)( [0-9]+)+$/; i++) ;
             if (line[i] != "" || line[i + 1] != heading) return wrong("no heading: " line[i])
             for (i += 2; i < n; i++) {
@@ -312,6 +342,24 @@ refuses 'a byte before A' 'blocks @A' "line 1, '@A'" 20
 refuses 'a byte before a' 'blocks a`' "line 1, 'a\`'" 20
 refuses 'blocks at the end of a line' "blocks\n05" 'line 1, at its end' 20
 refuses 'blocks at the end of the text' "${whole}blocks # 05" 'line 4, at its end' 20
+refuses 'a CM without octets' "caller sends\n$answerer" 'line 1, at its end' 20
+refuses 'a CM without octets at the end of the text' "$answerer\ncaller sends # C1" 'line 2, at its end' 20
+refuses 'a CM of functions' 'caller sends data' "line 1, 'data'" 20
+refuses 'what is wanted behind a CM' 'caller sends C1 45 wants LAPM' "line 1, 'wants'" 21
+refuses 'a second CM in its line' 'caller sends C1 45 sends C1 45' "line 1, 'sends'" 21
+refuses 'a CM behind a function' 'caller data sends C1 45' "line 1, 'sends'" 22
+refuses 'a CM behind what is wanted' 'caller wants LAPM, Sends C1 45' "line 1, 'Sends'" 22
+refuses 'a CM behind what a line is' 'caller digital sends C1 45' "line 1, 'sends'" 22
+refuses 'a CM behind the home function' 'caller home data sends C1 45' "line 1, 'sends'" 22
+refuses 'a CM of the answerer' "$caller\nanswerer sends C1 45" "line 2, 'sends'" 22
+refuses 'a CM behind a call' "call data\ncaller sends C1 45" "line 2, 'sends'" 22
+refuses 'a call behind a CM' "caller sends C1 45\ncall data" "line 2, 'call'" 11
+refuses 'a caller behind a CM' "caller sends C1 45\n$caller" "line 2, 'caller'" 11
+refuses 'a CM behind a caller' "$caller\ncaller sends C1 45" "line 2, 'caller'" 11
+refuses 'a CM twice' "caller sends C1 45\ncaller sends C1 45" "line 2, 'caller'" 11
+refuses 'sends without its end' 'sends C1 45' "line 1, 'sends'" 1
+refuses 'sends as what is wanted' 'caller data wants sends' "line 1, 'sends'" 4
+refuses 'a CM and no answerer' 'caller sends C1 45' '' 17
 refuses 'a name behind octets' 'blocks 05 b5 data' "line 1, 'data'" 21
 refuses 'a number behind octets' "blocks 05\nblocks 05 500" "line 2, '500'" 21
 refuses 'a sign behind octets' 'blocks 05, -5' "line 1, '-5'" 21
@@ -322,8 +370,8 @@ refuses 'a home function, then PCM' 'caller data PCM-digital home H.324' 'line 1
 refuses 'PCM, then the function of the call' "call videotex\ncaller data PCM-digital\n" 'line 2, at its end' 15
 refuses 'a wrong line before what is missing' "$caller\nTe 400" "line 2, '400'" 6
 refuses 'the function of the call, then what is missing' "$caller\ncall H.324" "line 2, 'H.324'" 19
-if [ "${#tried[@]}" -ne 21 ]; then
-    printf 'mistakes that no text is tried for: %s of 21 are\n' "${#tried[@]}"
+if [ "${#tried[@]}" -ne 22 ]; then
+    printf 'mistakes that no text is tried for: %s of 22 are\n' "${#tried[@]}"
     differ=$((differ + 1))
 fi
 
@@ -346,6 +394,29 @@ refuses 'a mistake behind octets that are no blocks' "${whole}blocks 00\nTe 400"
 text "caller data V.34 PCM-digital wants LAPM wants access\n$answerer\ncall data\nblocks $most"
 printf '%s\n' "$too_many" >"$work/expected"
 check "$program" '36 octets behind every group' "$work/input" "$work/expected" "${pieces[@]}"
+
+# The CM of v32bis.call as a stranger sends it: the same ladder, below another plan. The lines come in any order, words in any letters.
+strangers='C1 45 13 90 2A'
+sed -e "s/^caller    .*/caller    sends $strangers/" -e '/^call /d' "$calls/v32bis.timeline" >"$work/strangers"
+for lines_said in "caller sends $strangers\n$answerer" "Te 1000\n$answerer\n# a stranger\nCALLER, SENDS ${strangers,,}" \
+    "$answerer\n\tcaller\tSends  ${strangers// /,} # 00\r\n"; do
+    text "$lines_said"
+    check "$program" 'the CM of a record, as a stranger sends it' "$work/input" "$work/strangers" "${pieces[@]}"
+done
+sends 'a CM of one octet' 'c1' 'CM data  C1'
+sends 'a CM for a function that the answerer has not' '21 45' 'CM H.324: V.34  21 45'
+sends 'no function has the number of this one' 'E1 05' 'CM  E1 05'
+sends 'more than sixteen octets are in one line' "C1 05 10 10 $(printf '2A %.0s' {1..20})0D" 'CM data, LAPM, access  C1 05 10 10 2A 2A 2A 2A 2A 2A 2A 2A 2A'
+understood '64 octets' "$answerer\ncaller sends C1$(printf ' 2A%.0s' {1..63})" \
+    "caller    sends C1$(printf ' 2A%.0s' {1..63})\nanswerer  data V.32bis V.22bis V.26ter, home data\nTe        1000"
+unsendable '65 octets' "C1$(printf ' 2A%.0s' {1..64})" "$unsent 4"
+unsendable '256 octets, the first of which is no call function' "$every_octet" "$unsent 4"
+unsendable 'no call function' '45' "$unsent 5"
+unsendable 'a bad octet' 'C1 18' "$unsent 3"
+unsendable 'no call function, then a bad octet' '18 C1' "$unsent 5"
+unsendable 'blocks beside a CM' 'C1 45\nblocks 02 B5 00' "$with_blocks"
+unsendable 'blocks beside a CM that cannot be sent' '45\nblocks 00' "$with_blocks"
+refuses 'a mistake behind a CM that cannot be sent' "caller sends 45\n$answerer\nTe 400" "line 3, '400'" 6
 
 level='blocks 07 B5 02 00 41 32 2E 37'
 level_told='block 1: country B5, provider 00 41, rest 32 2E 37 "2.7"'
@@ -419,10 +490,17 @@ random_call() {
             return text (below(2) ? " cellular" : "") (below(2) ? " digital" : "")
         }
         BEGIN {
-            srand(seed); split(functions, function_of, " "); split(modes, mode_of, " "); called = 1 + below(6)
-            print end("caller", called); print end("answerer", 1 + below(6)); print "call " function_of[called]
+            srand(seed); split(functions, function_of, " "); split(modes, mode_of, " "); called = 1 + below(6); stranger = seed % 5 == 0
+            if (stranger) {
+                printf(below(2) ? "caller sends %02x %02X" : "CALLER Sends %02X %02x", 1 + 32 * called, 5 + 32 * below(8))
+                for (i = below(20); i > 0; i--) printf " %02x", 16 + below(8) + 64 * below(4)
+                print ""
+            } else {
+                print end("caller", called); print "call " function_of[called]
+            }
+            print end("answerer", 1 + below(6))
             if (below(2)) print "Te " 500 + below(4501)
-            for (i = below(4); i > 0; i--) {
+            for (i = stranger ? 0 : below(4); i > 0; i--) {
                 provider = below(3); rest = below(5)
                 printf "blocks %02x %02X %02X", 2 + provider + rest, below(255), provider
                 for (j = provider + rest; j > 0; j--) printf(below(2) ? " %02X" : " %02x", below(2) ? 32 + below(95) : below(256))
@@ -457,12 +535,14 @@ random() {
     }' "$@"
 }
 mapfile -t bytes < <(LC_ALL=C awk 'BEGIN { for (i = 1; i < 256; i++) if (i != 10) printf "%c\n", i }')
-read -ra words <<<"$lines $functions $modes $other_modes $parts $wanted $qualities $access 500 0 8999 9000 02 b5 00 # ,"
+read -ra words <<<"$lines $functions $modes $other_modes $parts $wanted $qualities $access 500 0 8999 9000 02 b5 00 c1 45 # ,"
 for ((n = 1; n <= 40; n++)); do
     random "$n" $((n * n * 31)) '' "${bytes[@]}" $'\n' >"$work/input"
     survives "random bytes, run $n"
     { printf 'caller data '; random "$n" "$n" ' ' "${words[@]}" $'\n' data V.34 home wants; } >"$work/input"
     survives "random words, run $n"
+    { printf 'answerer data\ncaller '; random "$n" $((1 + n / 4)) ' ' sends C1 c1 45 10 2A 18 $'\n' caller data; } >"$work/input"
+    survives "random words of a stranger, run $n"
     { printf '%b' "$whole"; random "$n" "$n" $'\n' 'damaged caller 610 681' 'damaged answerer 760' 'blocks 03 b5' 'blocks 00 02' 'blocks 02 B5 00' '# Te' ''; } >"$work/input"
     survives "random lines behind a call, run $n"
 done

@@ -1,7 +1,8 @@
 //! The program `rehearse`, through the words of its call texts: it understands what both ends can do as it was said, and ends the call
 //! as the model of document 01 says. Both ends go on with what the model chooses from the CM and the JM that it makes of the same two
 //! records, or the call is cleared, or the text gets the line for what is wrong with a record or with the function of the call, or with
-//! the caller's blocks. Below each CM that the answerer hears stand the blocks that the model reads in it.
+//! the caller's blocks. A stranger's CM is sent as it is given, and both ends go on with what the model chooses from it and its JM for it.
+//! Below each CM that the answerer hears stand the blocks that the model reads in it.
 use std::{
     collections::{BTreeMap, BTreeSet},
     fs,
@@ -62,7 +63,9 @@ const CALL_NOT_HAD: &str = "the caller has not the function of the call";
 const TOO_MANY: &str = "the blocks do not fit into a CM of 64 octets";
 const NO_BLOCKS: &str = "the octets are not blocks: a block is longer than what remains, or a code does not fit in it";
 
-/// How a call ends whose CM is agreed too late.
+const WITH_BLOCKS: &str = "a CM that is sent as it is takes no blocks";
+
+/// How a call ends whose CM is agreed too late, or is not answered.
 const LATE: &str = "the ends differ: the caller gave up, late; the answerer left";
 
 /// Marsaglia's xorshift: the same numbers in every run.
@@ -143,6 +146,25 @@ impl Random {
         (0..count).map(|_| lowest + self.below(values) as u8).collect()
     }
 
+    /// The CM of a stranger. One in eight are any octets, which can hardly ever be sent; of others some are too long.
+    fn given(&mut self) -> Vec<u8> {
+        if self.one_in(8) {
+            let count = 1 + self.below(70);
+            return self.octets(count);
+        }
+        let mut cm = vec![0x01 | (self.below(8) as u8) << 5, 0x05 | (self.below(8) as u8) << 5];
+        let most = if self.one_in(8) { 68 } else { 5 };
+        for _ in 0..self.below(most) {
+            cm.push(0x10 | (self.below(4) as u8) << 6 | self.below(8) as u8);
+        }
+        for category in [0x2A, 0x0D, 0x07] {
+            if self.one_in(3) {
+                cm.push(category | (self.below(8) as u8) << 5);
+            }
+        }
+        cm
+    }
+
     /// A function, most often one that the caller has.
     fn function(&mut self, caller: &Record) -> u8 {
         match self.below(6) as u8 + 1 {
@@ -152,11 +174,12 @@ impl Random {
     }
 }
 
-/// What is planned: two ends, the function of the call, Te where it is given, the octets of the caller's blocks, the damaged bits of
-/// either end.
+/// What is planned: two ends, the function of the call, the CM of a stranger in place of the caller's record and of the function, Te
+/// where it is given, the octets of the caller's blocks, the damaged bits of either end.
 struct Call {
     ends: [Record; 2],
     function: u8,
+    given: Option<Vec<u8>>,
     te: Option<usize>,
     blocks: Vec<u8>,
     damaged: [BTreeSet<usize>; 2],
@@ -211,7 +234,11 @@ impl Call {
     fn plain(&self) -> String {
         let [caller, answerer] = self.ends.each_ref().map(plain_record);
         let (function, te) = (name(self.function), self.te());
-        let mut plan = format!("caller    {caller}\nanswerer  {answerer}\ncall      {function}\nTe        {te}\n");
+        let mut plan = match &self.given {
+            Some(cm) => format!("caller    sends {}\nanswerer  {answerer}\n", text::show_octets(cm)),
+            None => format!("caller    {caller}\nanswerer  {answerer}\ncall      {function}\n"),
+        };
+        plan += &format!("Te        {te}\n");
         for line in self.blocks.chunks(16) {
             plan += &format!("blocks    {}\n", text::show_octets(line));
         }
@@ -227,8 +254,17 @@ impl Call {
     /// The call in other words: its lines in any order, and within them what may stand in any order, each word in any letters, with
     /// anything between that parts words. And the line that the text must get, where it is no call.
     fn in_other_words(&self, random: &mut Random) -> (String, Option<String>) {
-        let mut lines = vec![line_of_end(random, 0, &self.ends[0]), line_of_end(random, 1, &self.ends[1])];
-        lines.push(vec!["call".to_string(), any_letters(random, name(self.function))]);
+        let mut lines = vec![line_of_end(random, 1, &self.ends[1])];
+        match &self.given {
+            Some(cm) => {
+                let octets = cm.iter().map(|octet| any_letters(random, &format!("{octet:02X}"))).collect();
+                lines.push([vec!["caller".to_string(), any_letters(random, "sends")], octets].concat());
+            }
+            None => {
+                lines.push(line_of_end(random, 0, &self.ends[0]));
+                lines.push(vec!["call".to_string(), any_letters(random, name(self.function))]);
+            }
+        }
         if let Some(te) = self.te {
             lines.push(vec!["Te".to_string(), te.to_string()]);
         }
@@ -278,6 +314,9 @@ impl Call {
 
     /// What is wrong with an end, where the model says that its record is bad.
     fn wrong_end(&self, end: usize) -> Option<&'static str> {
+        if end == 0 && self.given.is_some() {
+            return None;
+        }
         let own = &self.ends[end];
         let home = own.functions[usize::from(own.home) - 1].available;
         // Any function will do: that the record is bad comes first.
@@ -290,7 +329,8 @@ impl Call {
 
     /// What is wrong with the function of the call, where the model says that the caller has it not.
     fn wrong_call(&self) -> Option<&'static str> {
-        (Model::default().cm(&self.ends[0], self.function, &[], 64) == Err(Refusal(5))).then_some(CALL_NOT_HAD)
+        let called = self.given.is_none().then(|| Model::default().cm(&self.ends[0], self.function, &[], 64));
+        (called == Some(Err(Refusal(5)))).then_some(CALL_NOT_HAD)
     }
 
     /// The line that the plain text gets where it is no call.
@@ -300,12 +340,21 @@ impl Call {
         end(0).or_else(|| end(1)).or_else(call)
     }
 
-    /// The line that the call gets where nothing is wrong with its text, and the model makes no CM with the caller's blocks.
-    fn unmade(&self) -> Option<&'static str> {
-        match Model::default().cm(&self.ends[0], self.function, &self.blocks, 64) {
-            Err(Refusal(4)) => Some(TOO_MANY),
-            Err(Refusal(14)) => Some(NO_BLOCKS),
-            _ => None,
+    /// The line that the call gets where nothing is wrong with its text, and the model makes no CM with the caller's blocks, or cannot
+    /// send the one that is given; and what that counts as.
+    fn unmade(&self) -> Option<(String, &'static str)> {
+        let model = Model::default();
+        match &self.given {
+            Some(_) if !self.blocks.is_empty() => Some((WITH_BLOCKS.to_string(), "with blocks")),
+            Some(cm) => {
+                let unsent = |Refusal(number)| format!("the CM that is given cannot be sent, refusal {number}");
+                model.write(Kind::Menu, cm, 1, 1000).err().map(|refusal| (unsent(refusal), "unsent"))
+            }
+            None => match model.cm(&self.ends[0], self.function, &self.blocks, 64) {
+                Err(Refusal(4)) => Some((TOO_MANY.to_string(), "too many")),
+                Err(Refusal(14)) => Some((NO_BLOCKS.to_string(), "no blocks")),
+                _ => None,
+            },
         }
     }
 
@@ -316,13 +365,17 @@ impl Call {
         begins + 2 * (20 + 10 * cm.len()) + 10 <= 1560
     }
 
-    /// CM, JM for it and the choice, as the model makes them of a call that nothing is wrong with.
-    fn made(&self) -> (Vec<u8>, Vec<u8>, Choice) {
-        let model = Model::default();
-        let cm = model.cm(&self.ends[0], self.function, &self.blocks, 64).expect("the caller has the function");
-        let jm = model.jm(&self.ends[1], &cm, 64).expect("a good record answers every CM");
-        let choice = model.choice(&cm, &jm).expect("what we answer was offered");
-        (cm, jm, choice)
+    /// CM of a call that nothing is wrong with: as it is given, or as the model makes it.
+    fn cm(&self) -> Vec<u8> {
+        let made = || Model::default().cm(&self.ends[0], self.function, &self.blocks, 64);
+        self.given.clone().unwrap_or_else(|| made().expect("the caller has the function"))
+    }
+
+    /// JM for it and the choice, as the model makes them, or why there is no JM.
+    fn answered(&self, cm: &[u8]) -> Result<(Vec<u8>, Choice), Refusal> {
+        let jm = Model::default().jm(&self.ends[1], cm, 64)?;
+        let choice = Model::default().choice(cm, &jm).expect("what we answer was offered");
+        Ok((jm, choice))
     }
 }
 
@@ -587,21 +640,31 @@ fn ends_as_the_model_says(call: &Call, said: &str, wrong: Option<String>, counts
         assert_eq!(printed, line + "\n", "{said}");
         return counts.add("refused");
     }
-    if let Some(line) = call.unmade() {
-        assert_eq!(printed, line.to_string() + "\n", "{said}");
-        return counts.add(if line == TOO_MANY { "too many" } else { "no blocks" });
+    if let Some((line, what)) = call.unmade() {
+        assert_eq!(printed, line + "\n", "{said}");
+        return counts.add(what);
     }
     let (plan, ladder) = plan_and_ladder(said, &printed);
     assert_eq!(plan, call.plain(), "{said}");
-    let (cm, jm, choice) = call.made();
-    if !call.in_time(&cm) {
-        assert_eq!(ladder.sent("menu"), Some(shown("CM", &cm)), "{said}{printed}");
-        assert_eq!(ladder.sent("joint"), None, "{said}{printed}");
-        assert_eq!(ladder.ending, LATE, "{said}{printed}");
-        return counts.add("late");
-    }
+    let cm = call.cm();
+    let (jm, choice) = match call.answered(&cm) {
+        Ok(answered) if call.in_time(&cm) => answered,
+        other => {
+            assert_eq!(ladder.sent("menu"), Some(shown("CM", &cm)), "{said}{printed}");
+            assert_eq!(ladder.sent("joint"), None, "{said}{printed}");
+            assert_eq!(ladder.ending, LATE, "{said}{printed}");
+            // A CM that is not answered is told once, however often it is agreed.
+            let refused = other.err().filter(|_| call.in_time(&cm));
+            let told = refused.map(|Refusal(number)| format!("no JM, refusal {number}"));
+            assert_eq!(ladder.sent("refused"), told, "{said}{printed}");
+            return counts.add("late");
+        }
+    };
     if !call.blocks.is_empty() {
         counts.add("blocks");
+    }
+    if call.given.is_some() {
+        counts.add("strangers");
     }
     counts.add(match choice {
         Choice::None => "cleared",
@@ -650,8 +713,14 @@ fn a_rehearsed_call_ends_as_the_model_says() {
         let asked: u8 = function.parse().expect("a function is a byte");
         let ends = [caller, answerer];
         for function in BTreeSet::from([asked, 6]).into_iter().filter(|function| (1..=6).contains(function)) {
-            let call =
-                Call { ends: ends.clone(), function, te: None, blocks: blocks.clone(), damaged: Default::default() };
+            let call = Call {
+                ends: ends.clone(),
+                function,
+                given: None,
+                te: None,
+                blocks: blocks.clone(),
+                damaged: Default::default(),
+            };
             ends_as_the_model_says(&call, &call.plain(), call.wrong(), &mut counts);
         }
     }
@@ -666,11 +735,27 @@ fn a_call_in_any_words_ends_as_the_model_says() {
         let ends = [random.record(), random.record()];
         let function = random.function(&ends[0]);
         let te = random.one_in(2).then(|| 500 + random.below(2900));
-        let call = Call { ends, function, te, blocks: random.blocks(), damaged: Default::default() };
+        let call = Call { ends, function, given: None, te, blocks: random.blocks(), damaged: Default::default() };
         let (said, wrong) = call.in_other_words(&mut random);
         ends_as_the_model_says(&call, &said, wrong, &mut counts);
     }
     counts.at_least(20, &["modes", "pcm", "cleared", "refused", "too many", "no blocks", "blocks", "late"]);
+}
+
+#[test]
+fn a_stranger_is_answered_as_the_model_says() {
+    let mut random = Random(3);
+    let mut counts = Counts::default();
+    for _ in 0..600 {
+        let ends = [random.record(), random.record()];
+        let given = Some(random.given());
+        let te = random.one_in(2).then(|| 500 + random.below(1500));
+        let blocks = if random.one_in(10) { random.blocks() } else { Vec::new() };
+        let call = Call { ends, function: 6, given, te, blocks, damaged: Default::default() };
+        let (said, wrong) = call.in_other_words(&mut random);
+        ends_as_the_model_says(&call, &said, wrong, &mut counts);
+    }
+    counts.at_least(20, &["strangers", "modes", "pcm", "cleared", "refused", "unsent", "with blocks", "late"]);
 }
 
 #[test]
@@ -683,10 +768,16 @@ fn the_answerer_waits_for_a_field_as_long_as_the_model_says() {
     // A CM with more is too late behind the shortest Te.
     for rest in 0..=27 {
         let blocks = [&[rest + 2, 0xB5, 0][..], &vec![b'7'; rest.into()]].concat();
-        let mut call =
-            Call { ends: [own.clone(), own.clone()], function: 6, te: None, blocks, damaged: Default::default() };
+        let mut call = Call {
+            ends: [own.clone(), own.clone()],
+            function: 6,
+            given: None,
+            te: None,
+            blocks,
+            damaged: Default::default(),
+        };
         // The latest CM that is agreed, and one that begins a bit later.
-        let (cm, ..) = call.made();
+        let cm = call.cm();
         let latest = (500..=5000).filter(|te| {
             call.te = Some(*te);
             call.in_time(&cm)
@@ -729,6 +820,7 @@ fn a_menu_that_damage_makes_is_answered_as_the_model_says() {
         let call = Call {
             ends: [own.clone(), own.clone()],
             function: own.home,
+            given: None,
             te: Some(5000),
             blocks: Vec::new(),
             damaged: [zeros, BTreeSet::new()],
@@ -773,11 +865,12 @@ fn a_call_over_a_damaged_line_ends_in_a_known_way() {
         let function = random.function(&ends[0]);
         let latest = if random.one_in(8) { 5000 } else { 2000 };
         let te = random.one_in(2).then(|| 500 + random.below(latest - 499));
-        let mut call = Call { ends, function, te, blocks: random.blocks(), damaged: Default::default() };
+        let mut call = Call { ends, function, given: None, te, blocks: random.blocks(), damaged: Default::default() };
         if call.wrong().is_some() || call.unmade().is_some() {
             continue;
         }
-        let (cm, jm, _) = call.made();
+        let cm = call.cm();
+        let (jm, _) = call.answered(&cm).expect("a CM of ours is answered");
         // Where CM begins; JM does so two copies of it later.
         let begins = 300 + call.te() * 3 / 10;
         let copies = [&cm, &jm].map(|menu| 20 + 10 * menu.len());

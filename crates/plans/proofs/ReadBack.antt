@@ -89,7 +89,7 @@ module _ (plan : Plan) (good : Good plan) (cm : List ℕ) (given : Given plan cm
     none-yet : replicate 16 0 ≡ callerSets
     unfolding withFunctions when
     none-yet =
-        let zero-at : (k : ℕ) → k < 8 → setAt plan 1 k ≡ 0 = unknown .nothing-said in
+        let zero-at = unknown .nothing-said in
         simp (zero-at 0 (lit< tt), zero-at 1 (lit< tt), zero-at 2 (lit< tt), zero-at 3 (lit< tt), zero-at 4 (lit< tt), zero-at 5 (lit< tt), zero-at 6 (lit< tt), zero-at 7 (lit< tt))
 
     stranger-read : (d : Found) → CallerRead d stranger
