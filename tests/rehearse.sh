@@ -3,8 +3,9 @@
 # with NAME.timeline, as a file and through a pipe in pieces of odd sizes, and does the same with the plan that stands above
 # each ladder; then on the same call in other words; then on texts that are wrong, each with the one line that it must get;
 # then on calls with blocks, which the answerer tells in words, or which get one line; then on calls of strangers, whose CM
-# is sent as it is given, or gets one line; then on random plans, on every call cut off at every byte and on random bytes, which must get a plan and a ladder or one line, and an end of the program that
-# is no crash. Prints what differs; exits with 1 on a difference and with 2 where there is nothing to run.
+# is sent as it is given, or gets one line; then on random plans, on every call cut off at every byte and on random bytes,
+# which must get a plan and a ladder or one line, and an end of the program that is no crash. Prints what differs; exits
+# with 1 on a difference and with 2 where there is nothing to run.
 set -uo pipefail
 
 program=${1:?the rehearsing program}
@@ -108,14 +109,16 @@ unsendable() {
     check "$program" "$1" "$work/input" "$work/expected" "${pieces[@]}"
 }
 
-# sends NAME OCTETS ROW: a call of a stranger with these octets for its CM, the plan that must stand above its ladder, and in the ladder
-# what the caller sends, with an arrow behind it, or with its octets in more rows.
+# sends NAME OCTETS ROW: a call of a stranger with these octets for its CM. They must stand in the plan above its ladder, and in the ladder
+# the row must say what the caller sends, without its arrow.
 sends() {
+    local status
     text "$answerer\ncaller sends $2"
     "$program" <"$work/input" >"$work/first"
+    status=$?
     printf 'caller    sends %s\nanswerer  data V.32bis V.22bis V.26ter, home data\nTe        1000\n' "${2^^}" >"$work/expected"
     plan <"$work/first" >"$work/printed"
-    compare "$1" "$work/expected" "${PIPESTATUS[0]}"
+    compare "$1" "$work/expected" "$status"
     printf '%s\n' "$3" >"$work/expected"
     sed -n 's/^ 2000  menu        \(CM[^-]*[^ -]\) *-*>*$/\1/p' "$work/first" >"$work/printed"
     compare "$1, as it is sent" "$work/expected" 0
@@ -398,9 +401,9 @@ check "$program" '36 octets behind every group' "$work/input" "$work/expected" "
 # The CM of v32bis.call as a stranger sends it: the same ladder, below another plan. The lines come in any order, words in any letters.
 strangers='C1 45 13 90 2A'
 sed -e "s/^caller    .*/caller    sends $strangers/" -e '/^call /d' "$calls/v32bis.timeline" >"$work/strangers"
-for lines_said in "caller sends $strangers\n$answerer" "Te 1000\n$answerer\n# a stranger\nCALLER, SENDS ${strangers,,}" \
+for said in "caller sends $strangers\n$answerer" "Te 1000\n$answerer\n# a stranger\nCALLER, SENDS ${strangers,,}" \
     "$answerer\n\tcaller\tSends  ${strangers// /,} # 00\r\n"; do
-    text "$lines_said"
+    text "$said"
     check "$program" 'the CM of a record, as a stranger sends it' "$work/input" "$work/strangers" "${pieces[@]}"
 done
 sends 'a CM of one octet' 'c1' 'CM data  C1'

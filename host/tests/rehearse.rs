@@ -158,7 +158,7 @@ impl Random {
             cm.push(0x10 | (self.below(4) as u8) << 6 | self.below(8) as u8);
         }
         for category in [0x2A, 0x0D, 0x07] {
-            if self.one_in(3) {
+            if !self.one_in(4) {
                 cm.push(category | (self.below(8) as u8) << 5);
             }
         }
@@ -746,10 +746,10 @@ fn a_call_in_any_words_ends_as_the_model_says() {
 fn a_stranger_is_answered_as_the_model_says() {
     let mut random = Random(3);
     let mut counts = Counts::default();
-    for _ in 0..600 {
+    for _ in 0..800 {
         let ends = [random.record(), random.record()];
         let given = Some(random.given());
-        let te = random.one_in(2).then(|| 500 + random.below(1500));
+        let te = random.one_in(2).then(|| 500 + random.below(2900));
         let blocks = if random.one_in(10) { random.blocks() } else { Vec::new() };
         let call = Call { ends, function: 6, given, te, blocks, damaged: Default::default() };
         let (said, wrong) = call.in_other_words(&mut random);

@@ -77,6 +77,7 @@ calledText function = when (eqb function stranger) [] (bytes "\ncall     " ++ fu
 abbrev pub headText : Plan → List ℕ → List ℕ
 headText plan cm = callerText plan cm ++ endText (bytes "\nanswerer ") plan 2 ++ calledText (plan .function)
 
+-- the line for Te
 abbrev pub teText : ℕ → List ℕ
 teText te = bytes "\nTe        " ++ decimal te
 
