@@ -839,6 +839,7 @@ fn a_menu_that_damage_makes_is_answered_as_the_model_says() {
         assert_eq!(ladder.sent("joint"), jm.as_ref().map(|jm| shown("JM", jm)), "{said}{printed}");
         match jm.map_or(0, |jm| jm.len()) {
             0 => {
+                assert_eq!(ladder.first("refused"), Some("no JM, refusal 4".to_string()), "{said}{printed}");
                 assert_eq!(ladder.ending, LATE, "{said}{printed}");
                 counts.add("no JM");
             }
