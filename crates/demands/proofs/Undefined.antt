@@ -250,7 +250,6 @@ module _ (menu longer : List ℕ) (read : listFault Reading menu ≡ 0) (short :
   pub unknown-groups-change-nothing : UnknownGroup menu longer → ChangesNothing menu longer
   unfolding every
   unknown-groups-change-nothing g =
-      let inside = (g .octet ∷ g .extensions) ++ g .rest in
       let not-5 = both-true _ _ (both-true _ _ (g .unknown) .1) .0 in
       changes-nothing-by menu longer read
       (ap (listFault Reading) (g .becomes) ∙ unknown-read (g .front) (g .rest) (g .octet ∷ g .extensions) (g .behind) (ap (listFault Reading) (sym (g .was)) ∙ read) (group-fine Reading (g .octet) (g .extensions) (g .is .opens) (g .is .extends)) (subst (λ (t : List ℕ). length t ≤ 64) (g .becomes) short))

@@ -1,4 +1,4 @@
--- The worked values that document 01 marks P: each line of the table is computed.
+-- The worked values that document 01 marks P, and those of request 03: each line of the tables is computed.
 -- Assumes nothing.
 use mathlib.Core.Path.{refl}
 use Rattle.laws.specs.Logic.{when, both, either}
@@ -19,8 +19,14 @@ use Rattle.choices.specs.Choosing.{lowestFrom, pcmChoice, itemChoice, chosenFro
 use Rattle.steps.specs.Table.{rows}
 use Rattle.steps.specs.Session.{inRange}
 use Rattle.steps.specs.Stepping.{elapsed, applies, findRow, timed, steppedIn}
+use Rattle.demands.specs.HeardCount.{workedCounts}
 use Rattle.demands.specs.Worked.{AllHold, done, _and_, worked}
 
 pub worked-values-hold : AllHold worked
 unfolding when both either firstFault untilCategory framed framedAll sequence copies put places placeOf hasItem setOf itemBits modulationOctet modesAt anyBad badRecord modulationFrom every blocksBehind fieldOf joined firstGroup frontPart groupOf menuRead inSet paired lowestFrom pcmChoice itemChoice chosenFrom rows inRange elapsed applies findRow timed steppedIn
 worked-values-hold = refl and refl and refl and refl and refl and refl and refl and refl and refl and refl and refl and refl and refl and refl and refl and refl and refl and refl and refl and refl and done
+
+-- and those of request 03
+pub counts-are-worked : AllHold workedCounts
+unfolding when both either firstFault untilCategory put places placeOf hasItem setOf itemBits modulationOctet modesAt anyBad badRecord modulationFrom every joined firstGroup frontPart groupOf inSet paired
+counts-are-worked = refl and refl and refl and refl and refl and refl and refl and done

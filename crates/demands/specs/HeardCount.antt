@@ -14,6 +14,7 @@ use Rattle.offers.specs.Offering.{jmOffer}
 use Rattle.offers.specs.Making.{menuOf}
 use Rattle.choices.specs.Choosing.{choiceOf}
 use Rattle.demands.specs.Joint.{jmOf, has, hasFor, NoModeInCommon}
+use Rattle.demands.specs.Worked.{Case, answers, forData}
 
 -- the JM of document 01 alone: "The modulation group has always three octets (house)."
 abbrev pub jmOfThree : Record → List ℕ → List ℕ
@@ -43,3 +44,21 @@ pub record ChoosesAsBefore (own : Record) (heard : List ℕ) : Type 0 where
   pub pcm : offerOf (jmOf own heard) .pcm ≡ offerOf (jmOfThree own heard) .pcm
   -- from any CM: for the answerer the heard one, for the caller the one that it sent
   pub choice : (cm : List ℕ) → choiceOf cm (jmOf own heard) ≡ choiceOf cm (jmOfThree own heard)
+
+-- the cases of which the request speaks, worked
+abbrev pub workedCounts : List Case
+workedCounts =
+    -- "An older logger that sends a single modulation octet": V.34 alone, which an answerer with items 3 and 4 has not
+    answers (forData (3 ∷ 4 ∷ []) 0 0 0) (0xC1 ∷ 0x45 ∷ []) (0xC1 ∷ 0x05 ∷ [])
+    -- "with another function": H.324, in place of which the home function is named
+    ∷ answers (forData (3 ∷ 4 ∷ []) 0 0 0) (0x21 ∷ 0x45 ∷ 0x10 ∷ []) (0xC1 ∷ 0x05 ∷ 0x10 ∷ [])
+    -- "none if it had none"
+    ∷ answers (forData (3 ∷ 4 ∷ []) 0 0 0) (0xC1 ∷ []) (0xC1 ∷ [])
+    -- "extra ones are 10 hex", whatever was heard there
+    ∷ answers (forData (4 ∷ []) 0 0 0) (0xC1 ∷ 0x45 ∷ 0x11 ∷ 0x90 ∷ 0xD7 ∷ 0x55 ∷ []) (0xC1 ∷ 0x05 ∷ 0x10 ∷ 0x10 ∷ 0x10 ∷ 0x10 ∷ [])
+    -- "item 0 still goes with PCM if a group is there": V.91 in common, with a group of a single octet and without one
+    ∷ answers (forData (4 ∷ []) 4 0 0) (0xC1 ∷ 0x45 ∷ 0x87 ∷ 0x0D ∷ []) (0xC1 ∷ 0x25 ∷ 0x87 ∷ 0x0D ∷ [])
+    ∷ answers (forData (4 ∷ []) 4 0 0) (0xC1 ∷ 0x87 ∷ 0x0D ∷ []) (0xC1 ∷ 0x87 ∷ 0x0D ∷ [])
+    -- "With a mode in common it stays at three."
+    ∷ answers (forData (1 ∷ []) 0 0 0) (0xC1 ∷ 0x45 ∷ []) (0xC1 ∷ 0x45 ∷ 0x10 ∷ 0x10 ∷ [])
+    ∷ []
