@@ -6,16 +6,17 @@ use native.Mathlib.Nat.{one-mul}
 use native.Mathlib.Omega.{arith}
 use mathlib.Core.Path.{_≡_, refl, sym, ap, ap₂, _∙_}
 use mathlib.Core.Bool.{Bool, true, false}
-use mathlib.Core.List.{List}
+use mathlib.Core.List.{List, append-assoc, append-nil}
 use borrow.Author.Tests.{eq-eqb, ne-eqb, eqb-true, ltb-false}
 use lib.Dec.{ltb, eqb, lit<}
 use lib.ListN.{length}
 use Rattle.laws.specs.Logic.{when, both, either}
+use Rattle.laws.specs.Joined.{joined}
 use Rattle.laws.proofs.Logic.{either-way, both-neither, bit-of-test}
 use Rattle.menus.specs.declared.Offer.{Offer}
 use Rattle.items.specs.Items.{inSet, modulation}
 use Rattle.menus.specs.Groups.{groupOf}
-use Rattle.menus.specs.Offer.{offerOf, offers}
+use Rattle.menus.specs.Offer.{pcmTag, protocol, access, offerOf, offers}
 use Rattle.items.proofs.Bits.{in-both, same-half}
 use Rattle.items.proofs.Sets.{none-in, past-set}
 use Rattle.menus.proofs.Reading.{menu-read}
@@ -26,10 +27,10 @@ use Rattle.offers.specs.Offering.{bit, withItem0, accessOptions, cmAccess, cmOf
 use Rattle.menus.specs.Pcm.{analogue, digital, v91, paired}
 use Rattle.offers.specs.Making.{houseCount, menuOf, modulationCount}
 use Rattle.offers.proofs.Making.{modulation-length, bit-small, size-fits}
-use Rattle.offers.proofs.Meaning.{Sayable, menu-readable, menu-writable, modulation-found, read-with, read-back, jm-items}
-use Rattle.offers.proofs.Fields.{other-group, offer-kept, with-readable, with-writable}
+use Rattle.offers.proofs.Meaning.{Sayable, menu-readable, menu-writable, modulation-found, pcm-found, protocol-found, access-found, read-with, read-back, jm-items}
+use Rattle.offers.proofs.Fields.{no-field, own-field, other-group, offer-kept, with-readable, with-writable}
 use Rattle.offers.proofs.Saying.{cm-sayable, jm-sayable}
-use Rattle.demands.specs.Joint.{AcceptedRecord, cmOf, jmOf, jmSays, has, filledIn, isAvailable, hasFor, pcmFor, saysCellular, SaysWhatTheRecordHas, HoldsWhatBothHave, HoldsWhatBothRecordsHave, IsReadBack}
+use Rattle.demands.specs.Joint.{AcceptedRecord, cmOf, jmOf, jmSays, has, StandsInOrder, MenusAreOfTheHouse, filledIn, isAvailable, hasFor, pcmFor, saysCellular, SaysWhatTheRecordHas, HoldsWhatBothHave, HoldsWhatBothRecordsHave, IsReadBack}
 use Rattle.demands.specs.OneChoice.{Call}
 use Rattle.demands.proofs.Shared.{has-read, crosswise}
 
@@ -76,6 +77,27 @@ cm-is-read-back own good function blocks there short = record {
   written = with-writable (cmOffer own function) blocks (size-fits (cmOf own function blocks) short);
   read = menu-read (cmOf own function blocks) (with-readable (cmOffer own function) blocks (size-fits (cmOf own function blocks) short)) ∙ ap offers (cm-back own good function blocks there);
 }
+
+-- how a menu is put together: three octets, and each group behind the last
+cm-count : (own : Record) (function : ℕ) (blocks : List ℕ) → length (groupOf (cmOf own function blocks) modulation) ≡ 3
+cm-count own function blocks =
+    let offer = cmOffer own function in
+    ap length (other-group offer blocks modulation refl ∙ modulation-found houseCount offer) ∙ modulation-length (offer .items) houseCount
+
+in-order : (count : ℕ) (offer : Offer) → StandsInOrder (menuOf count offer)
+unfolding joined
+in-order count offer = rw (modulation-found count offer, pcm-found count offer, protocol-found count offer, access-found count offer, no-field count offer) refl
+
+field-in-order : (own : Record) (function : ℕ) (blocks : List ℕ) → StandsInOrder (cmOf own function blocks)
+unfolding joined
+field-in-order own function blocks =
+    let offer = cmOffer own function in
+    let other = other-group offer blocks in
+    rw (other modulation refl ∙ modulation-found houseCount offer, other pcmTag refl ∙ pcm-found houseCount offer, other protocol refl ∙ protocol-found houseCount offer, other access refl ∙ access-found houseCount offer, own-field offer blocks)
+    (simp (append-assoc, append-nil))
+
+pub menus-are-of-the-house : MenusAreOfTheHouse
+menus-are-of-the-house = record { three = cm-count; cm = field-in-order; jm = λ own heard. in-order (counted own heard) (offered own heard) }
 
 -- item 0 is apart from the others
 beside-item-0 : (there : Bool) (items i : ℕ) → 0 < i → inSet (withItem0 there items) i ≡ inSet items i
@@ -242,14 +264,11 @@ module _ (caller answerer : Record) (function : ℕ) (blocks : List ℕ) (call :
   asked-for = says caller (call .calling) function blocks (call .available)
 
   -- our own CM has three octets, and so has every JM for it
-  sent-count : length (groupOf sent modulation) ≡ 3
-  sent-count = ap length (other-group cm blocks modulation refl ∙ modulation-found houseCount cm) ∙ modulation-length (cm .items) houseCount
-
   pub answered-house : answered ≡ menuOf houseCount (jmOffer answerer (offerOf sent))
   unfolding when
   answered-house =
       ap (λ (count : ℕ). menuOf count (jmOffer answerer (offerOf sent)))
-      (either-way (λ (count : ℕ). count ≡ houseCount) (ltb 1 (jmOffer answerer (offerOf sent) .items)) houseCount (length (groupOf sent modulation)) (λ _. refl) (λ _. sent-count))
+      (either-way (λ (count : ℕ). count ≡ houseCount) (ltb 1 (jmOffer answerer (offerOf sent) .items)) houseCount (length (groupOf sent modulation)) (λ _. refl) (λ _. cm-count caller function blocks))
 
   answered-with : offerOf answered ≡ jmOffer answerer cm
   answered-with = ap offerOf answered-house ∙ read-back (jmOffer answerer (offerOf sent)) (sayable answerer sent (call .answering)) ∙ ap (jmOffer answerer) asked-for

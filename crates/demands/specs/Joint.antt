@@ -2,8 +2,8 @@
 use Prim.Native.Nat.{ℕ, zero, suc, _<_, _*_}
 use mathlib.Core.Path.{_≡_}
 use mathlib.Core.Bool.{Bool, false}
-use mathlib.Core.List.{List}
-use lib.ListN.{length, getD}
+use mathlib.Core.List.{List, _++_}
+use lib.ListN.{length, take, getD}
 use lib.Dec.{ltb}
 use Rattle.laws.specs.Logic.{when, both, either}
 use Rattle.octets.specs.declared.Kind.the-variants.{Menu}
@@ -13,7 +13,8 @@ use Rattle.menus.specs.declared.Offer.{Offer}
 use Rattle.items.specs.Items.{inSet, hasItem}
 use Rattle.menus.specs.Groups.{groupOf}
 use Rattle.items.specs.Items.{modulation}
-use Rattle.menus.specs.Offer.{stands, offerOf, offers, menuRead}
+use Rattle.menus.specs.Offer.{pcmTag, protocol, access, stands, offerOf, offers, menuRead}
+use Rattle.fields.specs.Field.{fieldTag}
 use Rattle.records.specs.declared.Record.{Record}
 use Rattle.records.specs.declared.Modes.{Modes}
 use Rattle.records.specs.Record.{flag, noModes, badRecord}
@@ -37,6 +38,18 @@ jmOf own heard = jmMenu own heard
 -- a menu has an item: its bit stands in the first modulation group
 abbrev pub has : List ℕ → ℕ → Bool
 has menu i = hasItem (groupOf menu modulation) i
+
+-- "Group order is house: call function, modulation, PCM, protocol, access."; document 02, Req 02: "The field stands last in CM": the first octet, then the
+-- first group of each of these tags, and nothing else
+abbrev pub StandsInOrder : List ℕ → Type 0
+StandsInOrder menu = menu ≡ take 1 menu ++ (groupOf menu modulation ++ (groupOf menu pcmTag ++ (groupOf menu protocol ++ (groupOf menu access ++ groupOf menu fieldTag))))
+
+-- how the menus that we make are put together
+pub record MenusAreOfTheHouse : Type 0 where
+  -- "The modulation group has always three octets (house).": in every CM; of a JM request 03 says how many it has
+  pub three : (own : Record) (function : ℕ) (blocks : List ℕ) → length (groupOf (cmOf own function blocks) modulation) ≡ 3
+  pub cm : (own : Record) (function : ℕ) (blocks : List ℕ) → StandsInOrder (cmOf own function blocks)
+  pub jm : (own : Record) (heard : List ℕ) → StandsInOrder (jmOf own heard)
 
 -- what a record has filled in for a function; those of a record are counted from 1, and any other is never available
 abbrev pub filledIn : Record → ℕ → Modes

@@ -152,21 +152,30 @@ module _ (count : ℕ) (offer : Offer) where
   unfolding when
   modulation-found = found count offer modulation ∙ or-nothing (modulationGroup count (offer .items))
 
+  pub pcm-found : groupOf (menuOf count offer) pcmTag ≡ pcms count offer
+  unfolding when
+  pcm-found = found count offer pcmTag ∙ or-nothing (pcms count offer)
+
+  pub protocol-found : groupOf (menuOf count offer) protocol ≡ protocols count offer
+  unfolding when
+  protocol-found = found count offer protocol ∙ or-nothing (protocols count offer)
+
+  pub access-found : groupOf (menuOf count offer) access ≡ accesses count offer
+  unfolding when
+  access-found = found count offer access
+
   pub read-with : Sayable offer → offerOf (menuOf count offer) ≡ withItems offer (itemsOf (modulationGroup count (offer .items)))
   unfolding when joined
   read-with says =
-      let group-7 : groupOf (menuOf count offer) pcmTag ≡ pcms count offer = found count offer pcmTag ∙ or-nothing (pcms count offer) in
-      let group-10 : groupOf (menuOf count offer) protocol ≡ protocols count offer = found count offer protocol ∙ or-nothing (protocols count offer) in
-      let group-13 : groupOf (menuOf count offer) access ≡ accesses count offer = found count offer access in
-      let standing = ap stands group-13 ∙ stands-one (offer .access) (categoryOctet access (offer .«access_options»)) in
-      let counted = ap optionsIn group-7 ∙ options-of-one (ltb 0 (offer .pcm)) pcmTag (offer .pcm) (says .pcm) ∙ chosen-alone (ltb 0 (offer .pcm)) (offer .pcm) (λ e. omega (arith, ltb-false 0 (offer .pcm) e)) in
+      let standing = ap stands access-found ∙ stands-one (offer .access) (categoryOctet access (offer .«access_options»)) in
+      let counted = ap optionsIn pcm-found ∙ options-of-one (ltb 0 (offer .pcm)) pcmTag (offer .pcm) (says .pcm) ∙ chosen-alone (ltb 0 (offer .pcm)) (offer .pcm) (λ e. omega (arith, ltb-false 0 (offer .pcm) e)) in
       same-offer _ _ _ _ _ _ _ _ _ _ _ _
       (options-there callFunctionTag (offer .function) (says .function))
       (ap itemsOf modulation-found)
       (ap (λ (b : Bool). when b (optionsIn (groupOf (menuOf count offer) pcmTag)) 0) standing ∙ ap (λ (n : ℕ). when (offer .access) n 0) counted ∙ chosen-alone (offer .access) (offer .pcm) (says .pcm-alone))
-      (ap (λ (g : List ℕ). eqb (optionsIn g) 1) group-10 ∙ ap (λ (n : ℕ). eqb n 1) (options-of-one (offer .lapm) protocol lapmOption (lit< tt)) ∙ bit-of-test (offer .lapm) .1)
+      (ap (λ (g : List ℕ). eqb (optionsIn g) 1) protocol-found ∙ ap (λ (n : ℕ). eqb n 1) (options-of-one (offer .lapm) protocol lapmOption (lit< tt)) ∙ bit-of-test (offer .lapm) .1)
       standing
-      (ap optionsIn group-13 ∙ options-of-one (offer .access) access (offer .«access_options») (says .options) ∙ chosen-alone (offer .access) (offer .«access_options») (says .options-alone))
+      (ap optionsIn access-found ∙ options-of-one (offer .access) access (offer .«access_options») (says .options) ∙ chosen-alone (offer .access) (offer .«access_options») (says .options-alone))
 
 pub read-back : (offer : Offer) → Sayable offer → offerOf (menuOf houseCount offer) ≡ offer
 unfolding modulationFrom
