@@ -164,6 +164,7 @@ pub fn no_session() -> Session
     Session {
         entry: 0,
         te: 0,
+        cadence: cadence::no_cadence(),
         end: 0,
         state: 0,
         chosen: 0,

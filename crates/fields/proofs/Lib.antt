@@ -1,6 +1,5 @@
 pub mod Packing
 pub mod Streams
-pub mod Pasted
 pub mod Packs
 pub mod Field
 pub mod Blocks

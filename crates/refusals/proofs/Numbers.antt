@@ -6,14 +6,14 @@ use mathlib.Core.Path.{_≡_, refl, sym, ap, _∙_}
 use mathlib.Core.List.{[], _∷_}
 use lib.ListN.{getD}
 use Rattle.refusals.specs.declared.Refusal.{Refusal}
-use Rattle.refusals.specs.declared.Refusal.the-variants.{NotABit, StopBitZero, BadOctet, TooManyOctets, NoCallFunction, ShortBuffer, AfterOver, Clock, WrongEvent, BadRecord, NotOffered, WrongCategory, CutShort, BadBlock, BadPacking}
+use Rattle.refusals.specs.declared.Refusal.the-variants.{NotABit, StopBitZero, BadOctet, TooManyOctets, NoCallFunction, ShortBuffer, AfterOver, Clock, WrongEvent, BadRecord, NotOffered, WrongCategory, CutShort, BadBlock, BadPacking, BadCadence}
 use Rattle.refusals.specs.declared.Verdict.{Verdict}
 use Rattle.refusals.specs.declared.Verdict.the-variants.{Accepted, Refused}
 use Rattle.refusals.specs.Refusals.{number, fault}
 
 -- the refusal of a number
 abbrev pub named : ℕ → Refusal
-named n = getD (NotABit ∷ StopBitZero ∷ BadOctet ∷ TooManyOctets ∷ NoCallFunction ∷ ShortBuffer ∷ AfterOver ∷ Clock ∷ WrongEvent ∷ BadRecord ∷ NotOffered ∷ WrongCategory ∷ CutShort ∷ BadBlock ∷ BadPacking ∷ []) (n - 1) NotABit
+named n = getD (NotABit ∷ StopBitZero ∷ BadOctet ∷ TooManyOctets ∷ NoCallFunction ∷ ShortBuffer ∷ AfterOver ∷ Clock ∷ WrongEvent ∷ BadRecord ∷ NotOffered ∷ WrongCategory ∷ CutShort ∷ BadBlock ∷ BadPacking ∷ BadCadence ∷ []) (n - 1) NotABit
 
 pub named-number : (r : Refusal) → named (number r) ≡ r
 named-number NotABit = refl
@@ -31,6 +31,7 @@ named-number WrongCategory = refl
 named-number CutShort = refl
 named-number BadBlock = refl
 named-number BadPacking = refl
+named-number BadCadence = refl
 
 pub number-injective : (r s : Refusal) → number r ≡ number s → r ≡ s
 number-injective r s e = sym (named-number r) ∙ ap named e ∙ named-number s

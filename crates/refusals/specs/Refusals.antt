@@ -3,12 +3,12 @@ use Prim.Native.Nat.{ℕ}
 use lib.Dec.{eqb}
 use Rattle.laws.specs.Logic.{when}
 use Rattle.refusals.specs.declared.Refusal.{Refusal}
-use Rattle.refusals.specs.declared.Refusal.the-variants.{NotABit, StopBitZero, BadOctet, TooManyOctets, NoCallFunction, ShortBuffer, AfterOver, Clock, WrongEvent, BadRecord, NotOffered, WrongCategory, CutShort, BadBlock, BadPacking}
+use Rattle.refusals.specs.declared.Refusal.the-variants.{NotABit, StopBitZero, BadOctet, TooManyOctets, NoCallFunction, ShortBuffer, AfterOver, Clock, WrongEvent, BadRecord, NotOffered, WrongCategory, CutShort, BadBlock, BadPacking, BadCadence}
 use Rattle.refusals.specs.declared.Verdict.{Verdict}
 use Rattle.refusals.specs.declared.Verdict.the-variants.{Accepted, Refused}
 
 -- the table's first column; document 02, Req 02: "15 more than four bits left over, or leftover bits or options not 0; 14 block longer than what
--- remains or a code that doesn't fit in it"
+-- remains or a code that doesn't fit in it"; Req 04: "16 cadence outside these numbers"
 abbrev pub number : Refusal → ℕ
 number NotABit = 1
 number StopBitZero = 2
@@ -25,6 +25,7 @@ number WrongCategory = 12
 number CutShort = 13
 number BadBlock = 14
 number BadPacking = 15
+number BadCadence = 16
 
 -- "A refusal carries its number alone": a verdict as that number, or 0 where nothing is refused
 abbrev pub fault : Verdict → ℕ

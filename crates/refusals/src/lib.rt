@@ -19,6 +19,7 @@ pub enum Refusal {
     CutShort,
     BadBlock,
     BadPacking,
+    BadCadence,
 }
 
 // What a test says.
@@ -53,5 +54,6 @@ pub fn refusal_number(r: Refusal) -> u8
         Refusal::CutShort => 13,
         Refusal::BadBlock => 14,
         Refusal::BadPacking => 15,
+        Refusal::BadCadence => 16,
     }
 }

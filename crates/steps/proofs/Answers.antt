@@ -54,6 +54,6 @@ refused-in n low high = simp (low, high)
 pub answer-is-possible : (s : Session) (event value now : ℕ) → possibleAnswer (stepped s event value now .answer) ≡ true
 answer-is-possible s event value now =
     step-case s event value now (λ (o : StepOutcome). (inRange s ≡ true → inRange (o .session) ≡ true) → possibleAnswer (o .answer) ≡ true) (λ r. true) any-row
-    (λ n low high _. refused-in n (le-leb 7 n low) (le-leb n 10 high)) (λ _. refl)
-    (λ r taking _ keeps. says-session (rowTaken (renewed s event value now) (r .to) .session) (keeps (taking .inside)))
+    (λ n low high _. refused-in n (le-leb 7 n low) (le-leb n 10 high)) (λ _. refl) (λ _ _ _ _ _. refl)
+    (λ r taking _ _ keeps. says-session (rowTaken (renewed s event value now) (r .to) .session) (keeps (taking .inside)))
     (step-keeps-range s event value now)

@@ -13,18 +13,19 @@ use Rattle.laws.specs.Logic.{when, both, either}
 use Rattle.laws.specs.Tests.{every}
 use Rattle.laws.proofs.Logic.{either-way, clash}
 use Rattle.laws.proofs.Computed.{both-left, both-right}
+use Rattle.cadence.specs.declared.Cadence.{Cadence}
 use Rattle.steps.specs.declared.Session.{Session}
 use Rattle.steps.specs.declared.Row.{Row}
 use Rattle.steps.specs.declared.RowFound.{RowFound}
 use Rattle.steps.specs.declared.RowFound.the-variants.{At}
 use Rattle.steps.specs.Table.{menu, over, going, left, cleared, notOffered, goesOn, agreedJm, agreedCm, tick, noneChosen, jmRefused, rows}
 use Rattle.steps.specs.Session.{between, isMode, isChoice, early, inRange}
-use Rattle.steps.specs.Stepping.{same, entered, ended, goOn, StepOutcome, refusedWith11, holds, elapsed, applies, findRow, chosenAfter, renewed, endedAs, rowTaken, moved, refusedStep, timed, steppedIn, stepped}
-use Rattle.steps.specs.Runs.{Timed, next, run, entersAgreed, noneAgreed, Brought, here, later}
+use Rattle.steps.specs.Stepping.{same, entered, ended, goOn, StepOutcome, refusedWith11, holds, elapsed, applies, findRow, chosenAfter, renewed, endedAs, rowTaken, remembered, moved, refusedStep, timed, steppedIn, stepped}
+use Rattle.steps.specs.Runs.{Timed, Act, happens, asks, next, valueOf, run, entersAgreed, noneAgreed, Brought, here, later}
 use Rattle.steps.proofs.Known.{is-so, is-not, decide, taken-if, left-if, either-right}
 use Rattle.steps.proofs.Rows.{Taken, step-case}
 use Rattle.steps.proofs.Ranges.{range-fits}
-use Rattle.steps.proofs.Runs.{run-keeps-range}
+use Rattle.steps.proofs.Runs.{run-keeps-range, only-drawn}
 
 -- what a row says of the choice: whether closing or joint is next, and whether its event is an agreed menu
 abbrev agrees : Row → Bool
@@ -97,11 +98,11 @@ record Chooses (s : Session) (event value : ℕ) (o : StepOutcome) : Type 0 wher
   waiting : entersAgreed (o .answer) ≡ false → (o .session .chosen ≡ 0) ⊎ (o .session .chosen ≡ s .chosen)
 
 module _ (s : Session) (event value now : ℕ) where
-  unchanged : (o : StepOutcome) → entersAgreed (o .answer) ≡ false → o .session ≡ s → Chooses s event value o
-  unchanged o a e = record {
-    settled = λ h. (a, (ap (λ (x : Session). early (x .state)) e ∙ h, ap (λ (x : Session). x .chosen) e));
+  unchanged : (o : StepOutcome) → entersAgreed (o .answer) ≡ false → o .session .state ≡ s .state → o .session .chosen ≡ s .chosen → Chooses s event value o
+  unchanged o a state chosen = record {
+    settled = λ h. (a, (ap early state ∙ h, chosen));
     agreeing = λ h. clash (sym h ∙ a);
-    waiting = λ _. inr (ap (λ (x : Session). x .chosen) e);
+    waiting = λ _. inr chosen;
   }
 
   row-chooses : (r : Row) → Taken s event value now r → T (rowChooses r) → Chooses s event value (rowTaken (renewed s event value now) (r .to))
@@ -140,15 +141,26 @@ module _ (s : Session) (event value now : ℕ) where
       }
 
   chooses : Chooses s event value (stepped s event value now)
-  chooses = step-case s event value now (Chooses s event value) rowChooses rows-choose (λ n _ _. unchanged (refusedStep n s) refl refl) (unchanged (record { answer = same; session = s }) refl refl) row-chooses
+  chooses =
+      step-case s event value now (Chooses s event value) rowChooses rows-choose (λ n _ _. unchanged (refusedStep n s) refl refl refl) (unchanged (record { answer = same; session = s }) refl refl refl)
+      (λ _ _ _ _. unchanged (remembered s event) refl refl refl) (λ r taking tested _. row-chooses r taking tested)
+
+-- the same of what a host does; asking for bits is no event
+abbrev eventOf : Act → ℕ
+eventOf (happens t) = t .event
+eventOf (asks out) = 0
+
+chooses-next : (s : Session) (a : Act) → Chooses s (eventOf a) (valueOf a) (next s a)
+chooses-next s (happens t) = chooses s (t .event) (t .value) (t .now)
+chooses-next s (asks out) = let only = only-drawn s out .session in unchanged s 0 0 0 (next s (asks out)) refl (ap (λ (x : Session). x .state) only) (ap (λ (x : Session). x .chosen) only)
 
 abbrev Apart : StepOutcome → Type 0
 Apart o = entersAgreed (o .answer) ≡ false
 
 -- menu, at an agreed JM that is refused with 11: over, not offered
-module _ (entry te end chosen how now : ℕ) where
+module _ (entry te end chosen how now : ℕ) (c : Cadence) where
   abbrev inMenu : Session
-  inMenu = record { entry = entry; te = te; end = end; state = menu; chosen = chosen; ended = how }
+  inMenu = record { entry = entry; te = te; cadence = c; end = end; state = menu; chosen = chosen; ended = how }
 
   first-row : (passed : ℕ) → findRow inMenu agreedJm refusedWith11 passed rows ≡ At (record { 0 = over; 1 = notOffered })
   unfolding findRow applies rows when both either
@@ -169,45 +181,45 @@ module _ (entry te end chosen how now : ℕ) where
       (λ _. refl)
 
 -- an agreed menu brings what its event carries
-agreed-brings : (s : Session) (t : Timed) → entersAgreed (next s t .answer) ≡ true → next s t .session .chosen ≡ t .value
-agreed-brings s t agreed =
+agreed-brings : (s : Session) (a : Act) → entersAgreed (next s a .answer) ≡ true → next s a .session .chosen ≡ valueOf a
+agreed-brings s (asks out) agreed = clash (sym agreed)
+agreed-brings s (happens t) agreed =
     ⊎-elim
     (λ refused. clash (
     sym agreed
-    ∙ ap (λ (x : Session). entersAgreed (stepped x (t .event) (t .value) (t .now) .answer)) (ap (λ (state : ℕ). record { entry = s .entry; te = s .te; end = s .end; state = state; chosen = s .chosen; ended = s .ended }) (refused .waits))
-    ∙ ap₂ (λ (event value : ℕ). entersAgreed (stepped (record { entry = s .entry; te = s .te; end = s .end; state = menu; chosen = s .chosen; ended = s .ended }) event value (t .now) .answer)) (refused .jm) (refused .refused)
-    ∙ over-at-11 (s .entry) (s .te) (s .end) (s .chosen) (s .ended) (t .now)))
+    ∙ ap (λ (x : Session). entersAgreed (stepped x (t .event) (t .value) (t .now) .answer)) (ap (λ (state : ℕ). record { entry = s .entry; te = s .te; cadence = s .cadence; end = s .end; state = state; chosen = s .chosen; ended = s .ended }) (refused .waits))
+    ∙ ap₂ (λ (event value : ℕ). entersAgreed (stepped (inMenu (s .entry) (s .te) (s .end) (s .chosen) (s .ended) (t .now) (s .cadence)) event value (t .now) .answer)) (refused .jm) (refused .refused)
+    ∙ over-at-11 (s .entry) (s .te) (s .end) (s .chosen) (s .ended) (t .now) (s .cadence)))
     (λ brought. brought)
     (chooses s (t .event) (t .value) (t .now) .agreeing agreed .1)
 
 -- behind an agreed menu the choice stays
-settled-run : (s : Session) (ts : List Timed) → early (s .state) ≡ false → (noneAgreed s ts ≡ true) × (run s ts .chosen ≡ s .chosen)
+settled-run : (s : Session) (acts : List Act) → early (s .state) ≡ false → (noneAgreed s acts ≡ true) × (run s acts .chosen ≡ s .chosen)
 unfolding run noneAgreed both
 settled-run s [] h = (refl, refl)
-settled-run s (t ∷ ts) h =
-    let now = chooses s (t .event) (t .value) (t .now) .settled h in
-    let rest = settled-run (next s t .session) ts (now .1 .0) in
+settled-run s (a ∷ acts) h =
+    let now = chooses-next s a .settled h in
+    let rest = settled-run (next s a .session) acts (now .1 .0) in
     (rw (now .0) (rest .0), rest .1 ∙ now .1 .1)
 
 -- what is chosen once a menu is agreed
-brought-here : (s : Session) (t : Timed) (ts : List Timed) → entersAgreed (next s t .answer) ≡ true → Brought s (t ∷ ts) (run s (t ∷ ts) .chosen)
+brought-here : (s : Session) (a : Act) (acts : List Act) → entersAgreed (next s a .answer) ≡ true → Brought s (a ∷ acts) (run s (a ∷ acts) .chosen)
 unfolding run
-brought-here s t ts agreed =
-    let rest = settled-run (next s t .session) ts (chooses s (t .event) (t .value) (t .now) .agreeing agreed .0) in
-    subst (Brought s (t ∷ ts)) (sym (rest .1 ∙ agreed-brings s t agreed)) (here agreed (rest .0))
+brought-here s a acts agreed =
+    let rest = settled-run (next s a .session) acts (chooses-next s a .agreeing agreed .0) in
+    subst (Brought s (a ∷ acts)) (sym (rest .1 ∙ agreed-brings s a agreed)) (here agreed (rest .0))
 
 -- what is chosen was brought by an agreed menu
-brought-run : (s : Session) (ts : List Timed) → s .chosen ≡ 0 → (run s ts .chosen ≡ 0) ⊎ Brought s ts (run s ts .chosen)
+brought-run : (s : Session) (acts : List Act) → s .chosen ≡ 0 → (run s acts .chosen ≡ 0) ⊎ Brought s acts (run s acts .chosen)
 unfolding run
 brought-run s [] h = inl h
-brought-run s (t ∷ ts) h =
-    let now = chooses s (t .event) (t .value) (t .now) in
+brought-run s (a ∷ acts) h =
     ⊎-elim
-    (λ a. inr (brought-here s t ts a))
-    (λ a.
-    let none = ⊎-elim (λ z. z) (λ z. z ∙ h) (now .waiting a) in
-    ⊎-elim (λ z. inl z) (λ b. inr (later a b)) (brought-run (next s t .session) ts none))
-    (decide (entersAgreed (next s t .answer)))
+    (λ agreed. inr (brought-here s a acts agreed))
+    (λ apart.
+    let none = ⊎-elim (λ z. z) (λ z. z ∙ h) (chooses-next s a .waiting apart) in
+    ⊎-elim (λ z. inl z) (λ b. inr (later apart b)) (brought-run (next s a .session) acts none))
+    (decide (entersAgreed (next s a .answer)))
 
 -- only a row that goes on is answered so, and with a choice
 goes-by : (o g : Bool) (state how chosen c : ℕ) → when o (when g (goOn chosen) (ended how)) (entered state) ≡ goOn c → (g ≡ true) × (c ≡ chosen)
@@ -227,19 +239,19 @@ goes-on : (s : Session) (event value now c : ℕ) → stepped s event value now 
 unfolding either
 goes-on s event value now c =
     step-case s event value now (λ (o : StepOutcome). o .answer ≡ goOn c → (c ≡ s .chosen) × (c ≡ 0 → ⊥)) rowChooses rows-choose
-    (λ n _ _ e. clash (cc)) (λ e. clash (cc))
-    (λ r taking tested e.
+    (λ n _ _ e. clash (cc)) (λ e. clash (cc)) (λ _ _ _ _ e. clash (cc))
+    (λ r taking tested _ e.
     let chosen = chosenAfter event value (s .chosen) in
     let gone = goes-by (eqb (r .to .0) over) _ (r .to .0) _ chosen c e in
     let some = gone-by (eqb (r .to .1) goesOn) (eqb chosen 0) (r .to .1) refl (gone .0) in
     let on : event ≡ tick = sym (taking .row .on) ∙ eqb→eq _ _ (taken-if (eqb (r .to .1) goesOn) (eqb (r .event) tick) true (both-right (brings r) (onTick r) (both-right (once r) _ tested)) (some .0)) in
     (gone .1 ∙ kept-by _ _ _ _ (s .chosen) (ap byMenu on), λ z. eqb-false chosen 0 (some .1) (sym (gone .1) ∙ z)))
 
-pub goes-on-as-brought : (s : Session) (ts : List Timed) (t : Timed) (c : ℕ) → inRange s ≡ true → s .chosen ≡ 0 → next (run s ts) t .answer ≡ goOn c → Brought s ts c × (isMode c ≡ true)
-goes-on-as-brought s ts t c h none e =
-    let gone = goes-on (run s ts) (t .event) (t .value) (t .now) c e in
-    let choice : isChoice c ≡ true = ap isChoice (gone .0) ∙ range-fits (run s ts) (run-keeps-range s ts h) .choice in (
-      ⊎-elim (λ z. absurd (gone .1 (gone .0 ∙ z))) (λ b. subst (Brought s ts) (sym (gone .0)) b) (brought-run s ts none),
+pub goes-on-as-brought : (s : Session) (acts : List Act) (t : Timed) (c : ℕ) → inRange s ≡ true → s .chosen ≡ 0 → next (run s acts) (happens t) .answer ≡ goOn c → Brought s acts c × (isMode c ≡ true)
+goes-on-as-brought s acts t c h none e =
+    let gone = goes-on (run s acts) (t .event) (t .value) (t .now) c e in
+    let choice : isChoice c ≡ true = ap isChoice (gone .0) ∙ range-fits (run s acts) (run-keeps-range s acts h) .choice in (
+      ⊎-elim (λ z. absurd (gone .1 (gone .0 ∙ z))) (λ b. subst (Brought s acts) (sym (gone .0)) b) (brought-run s acts none),
       either-right (eqb c 0) (isMode c) choice (ne-eqb c 0 (gone .1)),
     )
 
@@ -300,26 +312,36 @@ module _ (s : Session) (event value now : ℕ) where
   clears : Clears s (stepped s event value now)
   clears =
       step-case s event value now (Clears s) rowClears rows-clear
-      (λ n _ _. record { none = λ h. h; waits = λ _ w. w }) (record { none = λ h. h; waits = λ _ w. w }) row-clears
+      (λ n _ _. record { none = λ h. h; waits = λ _ w. w }) (record { none = λ h. h; waits = λ _ w. w }) (λ _ _ _ _. record { none = λ h. h; waits = λ _ w. record { before = w .before; goes = w .goes } }) (λ r taking tested _. row-clears r taking tested)
 
-none-run : (s : Session) (ts : List Timed) → HasNone s → HasNone (run s ts)
+clears-next : (s : Session) (a : Act) → Clears s (next s a)
+clears-next s (happens t) = clears s (t .event) (t .value) (t .now)
+clears-next s (asks out) =
+    let only = only-drawn s out .session in
+    let ended = ap (λ (x : Session). x .ended) only in
+    record {
+      none = λ h e. ap (λ (x : Session). x .chosen) only ∙ h (sym ended ∙ e);
+      waits = λ _ w. record { before = ap (λ (x : Session). entersAgreed (entered (x .state))) only ∙ w .before; goes = λ e. w .goes (sym ended ∙ e) };
+    }
+
+none-run : (s : Session) (acts : List Act) → HasNone s → HasNone (run s acts)
 unfolding run
 none-run s [] h = h
-none-run s (t ∷ ts) h = none-run (next s t .session) ts (clears s (t .event) (t .value) (t .now) .none h)
+none-run s (a ∷ acts) h = none-run (next s a .session) acts (clears-next s a .none h)
 
-cleared-run : (s : Session) (ts : List Timed) → Waits s → run s ts .ended ≡ cleared → Brought s ts (run s ts .chosen)
+cleared-run : (s : Session) (acts : List Act) → Waits s → run s acts .ended ≡ cleared → Brought s acts (run s acts .chosen)
 unfolding run
 cleared-run s [] w e = absurd (w .goes e)
-cleared-run s (t ∷ ts) w e =
-    ⊎-elim (λ a. brought-here s t ts a)
-    (λ a. later a (cleared-run (next s t .session) ts (clears s (t .event) (t .value) (t .now) .waits a w) e))
-    (decide (entersAgreed (next s t .answer)))
+cleared-run s (a ∷ acts) w e =
+    ⊎-elim (λ agreed. brought-here s a acts agreed)
+    (λ apart. later apart (cleared-run (next s a .session) acts (clears-next s a .waits apart w) e))
+    (decide (entersAgreed (next s a .answer)))
 
 -- a session that is cleared was brought none
-pub cleared-as-brought : (s : Session) (ts : List Timed) → entersAgreed (entered (s .state)) ≡ false → s .ended ≡ going → run s ts .ended ≡ cleared → Brought s ts 0
-cleared-as-brought s ts before goes e =
+pub cleared-as-brought : (s : Session) (acts : List Act) → entersAgreed (entered (s .state)) ≡ false → s .ended ≡ going → run s acts .ended ≡ cleared → Brought s acts 0
+cleared-as-brought s acts before goes e =
     let open-yet : s .ended ≡ cleared → ⊥ = λ c. let z : _≡_ {A = ℕ} going cleared = sym goes ∙ c in let w : ⊥ = omega (arith, z) in w in
-    subst (Brought s ts) (none-run s ts (λ c. absurd (open-yet c)) e) (cleared-run s ts (record { before = before; goes = open-yet }) e)
+    subst (Brought s acts) (none-run s acts (λ c. absurd (open-yet c)) e) (cleared-run s acts (record { before = before; goes = open-yet }) e)
 
 -- going on needs a choice
 some-by : (o none : Bool) → when o (not none) false ≡ true → none ≡ false
@@ -333,11 +355,11 @@ unfolding when
 some-chosen o none how e h = some-by o none (sym (ap (λ (n : ℕ). when o (when (eqb n goesOn) (not none) (between left notOffered n)) (eqb n going)) e) ∙ h)
 
 -- and one that went on has what it was brought
-pub went-on-as-brought : (s : Session) (ts : List Timed) → inRange s ≡ true → s .chosen ≡ 0 → run s ts .ended ≡ goesOn → Brought s ts (run s ts .chosen) × (isMode (run s ts .chosen) ≡ true)
-went-on-as-brought s ts h none e =
-    let end = run s ts in
-    let fits = range-fits end (run-keeps-range s ts h) in
+pub went-on-as-brought : (s : Session) (acts : List Act) → inRange s ≡ true → s .chosen ≡ 0 → run s acts .ended ≡ goesOn → Brought s acts (run s acts .chosen) × (isMode (run s acts .chosen) ≡ true)
+went-on-as-brought s acts h none e =
+    let end = run s acts in
+    let fits = range-fits end (run-keeps-range s acts h) in
     let some : eqb (end .chosen) 0 ≡ false = some-chosen (eqb (end .state) over) (eqb (end .chosen) 0) (end .ended) e (fits .ended) in (
-      ⊎-elim (λ z. absurd (eqb-false _ _ some z)) (λ b. b) (brought-run s ts none),
+      ⊎-elim (λ z. absurd (eqb-false _ _ some z)) (λ b. b) (brought-run s acts none),
       either-right (eqb (end .chosen) 0) (isMode (end .chosen)) (fits .choice) some,
     )

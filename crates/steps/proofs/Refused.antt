@@ -17,7 +17,7 @@ use Rattle.steps.specs.declared.RowFound.{RowFound}
 use Rattle.steps.specs.declared.RowFound.the-variants.{At, Nothing}
 use Rattle.steps.specs.Table.{over, goesOn, rows}
 use Rattle.steps.specs.Session.{inRange}
-use Rattle.steps.specs.Stepping.{Answered, same, entered, ended, goOn, refusal, StepOutcome, elapsed, owns, carries, applies, findRow, chosenAfter, endedAs, answerOf, moved, refusedStep, timed, steppedIn, stepped}
+use Rattle.steps.specs.Stepping.{Answered, same, entered, ended, goOn, refusal, StepOutcome, elapsed, owns, carries, applies, findRow, chosenAfter, endedAs, answerOf, renewed, rowTaken, remembered, moved, refusedStep, timed, steppedIn, stepped}
 
 -- what an event is answered, as one number more than its refusal
 abbrev numberAnswered : Answered → ℕ
@@ -42,7 +42,9 @@ pub data StepNumber : ℕ → Type 0 where
 
 module _ (s : Session) (event value now : ℕ) where
   moved-fine : (found : RowFound) → numberAnswered (moved s event value now found .answer) ≡ 0
-  moved-fine (At to) = let chosen = chosenAfter event value (s .chosen) in answer-fine (to .0) (endedAs (to .1) chosen) chosen
+  moved-fine (At to) =
+      let chosen = chosenAfter event value (s .chosen) in
+      either-way (λ (o : StepOutcome). numberAnswered (o .answer) ≡ 0) (eqb (to .0) (s .state)) (remembered s event) (rowTaken (renewed s event value now) to) (λ _. refl) (λ _. answer-fine (to .0) (endedAs (to .1) chosen) chosen)
   moved-fine Nothing = refl
 
   abbrev Kept : StepOutcome → Type 0

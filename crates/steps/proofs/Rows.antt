@@ -7,7 +7,7 @@ use mathlib.Core.Path.{_≡_, refl, ap, _∙_}
 use mathlib.Core.Bool.{Bool, true, false}
 use mathlib.Core.List.{List, [], _∷_}
 use borrow.Author.Tests.{eqb-true}
-use lib.Dec.{T, ltb, leb, ltb→lt, lit≤}
+use lib.Dec.{T, ltb, leb, eqb, ltb→lt, lit≤}
 use lib.ListN.{getD, drop}
 use lib.Seq.{drop-cons}
 use Rattle.laws.specs.Logic.{when, both}
@@ -21,40 +21,44 @@ use Rattle.steps.specs.declared.RowFound.the-variants.{At, Nothing}
 use Rattle.steps.specs.Table.{rows}
 use Rattle.steps.specs.Session.{inRange}
 use Rattle.steps.specs.Inner.{whatHolds}
-use Rattle.steps.specs.Stepping.{same, StepOutcome, elapsed, owns, carries, holds, rowFits, applies, findRow, renewed, rowTaken, moved, refusedStep, timed, steppedIn, stepped}
+use Rattle.steps.specs.Stepping.{same, StepOutcome, elapsed, owns, carries, holds, rowFits, applies, findRow, renewed, rowTaken, remembered, moved, refusedStep, timed, steppedIn, stepped}
 
 -- the table, read at a place
-row-at : (i : ℕ) (d : Row) → i < 19 → drop i rows ≡ getD rows i d ∷ drop (i + 1) rows
+row-at : (i : ℕ) (d : Row) → i < 23 → drop i rows ≡ getD rows i d ∷ drop (i + 1) rows
 unfolding rows
 row-at i d h = rw add-one (drop-cons rows i d h)
 
--- there are five conditions
-pub one-of-five : (i : ℕ) (d : Row) → i < 19 → getD rows i d .condition < 5
+-- there are nine conditions
+pub one-of-nine : (i : ℕ) (d : Row) → i < 23 → getD rows i d .condition < 9
 unfolding rows allBelow both
-one-of-five i d h = ltb→lt _ 5 (below (λ k. ltb (getD rows k d .condition) 5) 19 tt i h)
+one-of-nine i d h = ltb→lt _ 9 (below (λ k. ltb (getD rows k d .condition) 9) 23 tt i h)
 
 -- what the condition of this number comes to
-held-at : (s : Session) (value passed k : ℕ) (d : Bool) → k < 5 → getD (whatHolds s value passed) k d ≡ holds k s value passed
+held-at : (s : Session) (value passed k : ℕ) (d : Bool) → k < 9 → getD (whatHolds s value passed) k d ≡ holds k s value passed
 unfolding when
 held-at s value passed zero d h = refl
 held-at s value passed (suc zero) d h = refl
 held-at s value passed (suc (suc zero)) d h = refl
 held-at s value passed (suc (suc (suc zero))) d h = refl
 held-at s value passed (suc (suc (suc (suc zero)))) d h = refl
-held-at s value passed (suc (suc (suc (suc (suc k))))) d h = absurd (let z : ⊥ = omega (arith, h) in z)
+held-at s value passed (suc (suc (suc (suc (suc zero))))) d h = refl
+held-at s value passed (suc (suc (suc (suc (suc (suc zero)))))) d h = refl
+held-at s value passed (suc (suc (suc (suc (suc (suc (suc zero))))))) d h = refl
+held-at s value passed (suc (suc (suc (suc (suc (suc (suc (suc zero)))))))) d h = refl
+held-at s value passed (suc (suc (suc (suc (suc (suc (suc (suc (suc k))))))))) d h = absurd (let z : ⊥ = omega (arith, h) in z)
 
 -- the test of row i, by what was found of each condition
-pub tested-at : (s : Session) (event value passed i : ℕ) (d : Row) (held : List Bool) (e : Bool) → i < 19 → held ≡ whatHolds s value passed → rowFits (getD rows i d) (s .state) event passed (getD held (getD rows i d .condition) e) ≡ applies s event value passed (getD rows i d)
+pub tested-at : (s : Session) (event value passed i : ℕ) (d : Row) (held : List Bool) (e : Bool) → i < 23 → held ≡ whatHolds s value passed → rowFits (getD rows i d) (s .state) event passed (getD held (getD rows i d .condition) e) ≡ applies s event value passed (getD rows i d)
 unfolding applies
 tested-at s event value passed i d held e h is =
-    ap (rowFits (getD rows i d) (s .state) event passed) (ap (λ (l : List Bool). getD l (getD rows i d .condition) e) is ∙ held-at s value passed (getD rows i d .condition) e (one-of-five i d h))
+    ap (rowFits (getD rows i d) (s .state) event passed) (ap (λ (l : List Bool). getD l (getD rows i d .condition) e) is ∙ held-at s value passed (getD rows i d .condition) e (one-of-nine i d h))
 
 -- row i is found where it applies, and where it does not, the first behind it
-pub found-at : (s : Session) (event value passed i : ℕ) (d : Row) → i < 19 → applies s event value passed (getD rows i d) ≡ true → findRow s event value passed (drop i rows) ≡ At (getD rows i d .to)
+pub found-at : (s : Session) (event value passed i : ℕ) (d : Row) → i < 23 → applies s event value passed (getD rows i d) ≡ true → findRow s event value passed (drop i rows) ≡ At (getD rows i d .to)
 unfolding findRow when
 found-at s event value passed i d h a = rw (row-at i d h, a) refl
 
-pub found-behind : (s : Session) (event value passed i : ℕ) (d : Row) → i < 19 → applies s event value passed (getD rows i d) ≡ false → findRow s event value passed (drop i rows) ≡ findRow s event value passed (drop (i + 1) rows)
+pub found-behind : (s : Session) (event value passed i : ℕ) (d : Row) → i < 23 → applies s event value passed (getD rows i d) ≡ false → findRow s event value passed (drop i rows) ≡ findRow s event value passed (drop (i + 1) rows)
 unfolding findRow when
 found-behind s event value passed i d h a = rw (row-at i d h, a) refl
 
@@ -96,16 +100,19 @@ module _ (s : Session) (event value now : ℕ) where
     pub fit : carries event value ≡ true
     pub row : Applies s event value (elapsed now (s .entry)) r
 
-  -- an event is refused with 7 to 10, or changes nothing, or one row is taken, and that may use a test computed over the table
-  pub step-case : (P : StepOutcome → Type 0) (p : Row → Bool) → T (every p rows) → ((n : ℕ) → 7 ≤ n → n ≤ 10 → P (refusedStep n s)) → P (record { answer = same; session = s }) → ((r : Row) → Taken r → T (p r) → P (rowTaken (renewed s event value now) (r .to))) → P (stepped s event value now)
+  -- an event is refused with 7 to 10, or changes nothing, or one row remembers it or is taken, and that may use a test computed over the table
+  pub step-case : (P : StepOutcome → Type 0) (p : Row → Bool) → T (every p rows) → ((n : ℕ) → 7 ≤ n → n ≤ 10 → P (refusedStep n s)) → P (record { answer = same; session = s })
+      → ((r : Row) → Taken r → T (p r) → eqb (r .to .0) (s .state) ≡ true → P (remembered s event)) → ((r : Row) → Taken r → T (p r) → eqb (r .to .0) (s .state) ≡ false → P (rowTaken (renewed s event value now) (r .to))) → P (stepped s event value now)
   unfolding steppedIn timed
-  step-case P p t refused none at =
+  step-case P p t refused none remembers at =
       either-way P (inRange s) (steppedIn s event value now) (refusedStep 10 s)
       (λ inside. either-way P _ (refusedStep 7 s) _ (λ _. refused 7 (lit≤ tt) (lit≤ tt))
       (λ _. either-way P _ (timed s event value now) (refusedStep 9 s)
       (λ tests. either-way P _ _ (refusedStep 8 s)
       (λ _. found-case s event value (elapsed now (s .entry)) (λ (found : RowFound). P (moved s event value now found)) p rows t
-      (λ r row. at r (record { inside = inside; own = both-true _ _ tests .0; fit = both-true _ _ tests .1; row = row })) none)
+      (λ r row tested.
+      let taking : Taken r = record { inside = inside; own = both-true _ _ tests .0; fit = both-true _ _ tests .1; row = row } in
+      either-way P (eqb (r .to .0) (s .state)) (remembered s event) (rowTaken (renewed s event value now) (r .to)) (remembers r taking tested) (at r taking tested)) none)
       (λ _. refused 8 (lit≤ tt) (lit≤ tt)))
       (λ _. refused 9 (lit≤ tt) (lit≤ tt))))
       (λ _. refused 10 (lit≤ tt) (lit≤ tt))

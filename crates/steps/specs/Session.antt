@@ -4,6 +4,9 @@ use mathlib.Core.Bool.{Bool, true, not}
 use lib.Dec.{ltb, leb, eqb}
 use Rattle.laws.specs.Logic.{when, both, either}
 use Rattle.refusals.specs.Refusals.{number}
+use Rattle.cadence.specs.declared.Cadence.{Cadence}
+use Rattle.cadence.specs.Cadence.{isFunction, isCadence}
+use Rattle.cadence.specs.Giving.{cadenceFits, noCadence, isNone, begun}
 use Rattle.steps.specs.declared.Session.{Session}
 use Rattle.steps.specs.declared.Started.{Started}
 use Rattle.steps.specs.declared.Started.the-variants.{Ready, Refused}
@@ -68,20 +71,29 @@ choiceFits state none = when (early state) none true
 abbrev pub endedFits : ℕ → Bool → ℕ → Bool
 endedFits state none ended = when (eqb state over) (when (eqb ended goesOn) (not none) (between left notOffered ended)) (eqb ended going)
 
+-- before "Calling" nothing was sent, and no tone was heard
+abbrev pub beginning : ℕ → ℕ → ℕ → Bool
+beginning state sent tone = when (eqb state callerStill) (both (eqb sent 0) (eqb tone 0)) true
+
+-- the cadence is the caller's alone
+abbrev pub cadenceOf : ℕ → ℕ → Cadence → Bool
+cadenceOf end state c = when (eqb end caller) (both (cadenceFits c) (beginning state (c .sent) (c .tone))) (isNone c)
+
 -- "session with a field outside its range" is refused with 10
 unfoldable pub inRange : Session → Bool
 inRange s =
     both (endFits (s .end) (s .te))
     (both (stateFits (s .end) (s .state))
     (both (isChoice (s .chosen))
-    (both (choiceFits (s .state) (eqb (s .chosen) 0)) (endedFits (s .state) (eqb (s .chosen) 0) (s .ended)))))
+    (both (choiceFits (s .state) (eqb (s .chosen) 0))
+    (both (endedFits (s .state) (eqb (s .chosen) 0) (s .ended)) (cadenceOf (s .end) (s .state) (s .cadence))))))
 
 -- "The time of the start .. is the entry time."
-abbrev pub callerFrom : ℕ → ℕ → Session
-callerFrom now te = record { entry = now; te = te; end = caller; state = callerStill; chosen = 0; ended = going }
+abbrev pub callerFrom : ℕ → ℕ → Cadence → Session
+callerFrom now te c = record { entry = now; te = te; cadence = c; end = caller; state = callerStill; chosen = 0; ended = going }
 
 abbrev pub answererFrom : ℕ → Session
-answererFrom now = record { entry = now; te = 0; end = answerer; state = answererStill; chosen = 0; ended = going }
+answererFrom now = record { entry = now; te = 0; cadence = noCadence; end = answerer; state = answererStill; chosen = 0; ended = going }
 
 -- what a start gives: a session, or a refusal's number
 pub data Start : Type 0 where
@@ -92,6 +104,8 @@ abbrev pub saysStarted : Started → Start
 saysStarted (Ready s) = ready s
 saysStarted (Refused r) = refusal (number r)
 
--- "Te out of range" is refused with 10
-abbrev pub startedCaller : ℕ → ℕ → Start
-startedCaller now te = when (isTe te) (ready (callerFrom now te)) (refusal 10)
+-- "Te out of range" is refused with 10, and so is a function that is none; document 02, Req 04: "16 cadence outside these numbers, at the start, after 10"
+abbrev pub startedCaller : ℕ → ℕ → ℕ → ℕ → ℕ → Start
+startedCaller now te function on off =
+    when (both (isTe te) (isFunction function)) (when (isCadence on off) (ready (callerFrom now te (begun function on off))) (refusal 16))
+    (refusal 10)

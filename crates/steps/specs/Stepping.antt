@@ -6,6 +6,8 @@ use mathlib.Core.List.{List, [], _∷_}
 use lib.Dec.{ltb, leb, eqb}
 use Rattle.laws.specs.Logic.{when, both, either}
 use Rattle.refusals.specs.Refusals.{number}
+use Rattle.cadence.specs.declared.Cadence.{Cadence}
+use Rattle.cadence.specs.Giving.{left, remembering}
 use Rattle.steps.specs.declared.Session.{Session}
 use Rattle.steps.specs.declared.Row.{Row}
 use Rattle.steps.specs.declared.To.{To}
@@ -14,7 +16,8 @@ use Rattle.steps.specs.declared.RowFound.the-variants.{At, Nothing}
 use Rattle.steps.specs.declared.Answer.{Answer}
 use Rattle.steps.specs.declared.Answer.the-variants.{Same, Entered, Ended, GoOn, Refused}
 use Rattle.steps.specs.declared.Stepped.{Stepped}
-use Rattle.steps.specs.Table.{over, left, goesOn, ansam, agreedJm, cjSent, agreedCm, sigC, cj, tick, teElapsed, noneChosen, jmRefused, chosenItem, rows}
+use Rattle.steps.specs.Table as table
+use Rattle.steps.specs.Table.{over, goesOn, ansam, ans, agreedJm, cjSent, agreedCm, sigC, cj, tick, teElapsed, noneChosen, jmRefused, chosenItem, nothingLeft, noTone, behindAnsam, behindAns, rows}
 use Rattle.steps.specs.Session.{isItem, isChoice, ofEnd, inRange}
 
 -- what an event is answered: "same", the state entered, how the session ended, the choice to go on with, or a refusal's number
@@ -63,14 +66,22 @@ carries event value =
     (when (eqb event sigC) (isItem value)
     true))
 
--- what else a row asks for: "elapsed Te", "choice none", "refused with 11", "sigC of the chosen item", or nothing
+-- this tone was heard, or with 0 none, and "nothing is left to send"
+abbrev pub isSent : ℕ → Cadence → Bool
+isSent tone c = both (eqb (c .tone) tone) (eqb (left c) 0)
+
+-- what else a row asks for: "elapsed Te", "choice none", "refused with 11", "sigC of the chosen item", what was heard and sent, or nothing
 abbrev pub holds : ℕ → Session → ℕ → ℕ → Bool
 holds condition s value passed =
     when (eqb condition teElapsed) (leb (s .te) passed)
     (when (eqb condition noneChosen) (eqb (s .chosen) 0)
     (when (eqb condition jmRefused) (eqb value refusedWith11)
     (when (eqb condition chosenItem) (eqb value (s .chosen))
-    true)))
+    (when (eqb condition nothingLeft) (isSent 0 (s .cadence))
+    (when (eqb condition noTone) (eqb (s .cadence .tone) 0)
+    (when (eqb condition behindAnsam) (isSent ansam (s .cadence))
+    (when (eqb condition behindAns) (isSent ans (s .cadence))
+    true)))))))
 
 -- a row of this state and this event; "'Elapsed' .. means at least"
 abbrev pub rowFits : Row → ℕ → ℕ → ℕ → Bool → Bool
@@ -93,11 +104,11 @@ chosenAfter event value chosen =
 
 -- "The time .. of each change of state, is the entry time."
 abbrev pub renewed : Session → ℕ → ℕ → ℕ → Session
-renewed s event value now = record { entry = now; te = s .te; end = s .end; state = s .state; chosen = chosenAfter event value (s .chosen); ended = s .ended }
+renewed s event value now = record { entry = now; te = s .te; cadence = s .cadence; end = s .end; state = s .state; chosen = chosenAfter event value (s .chosen); ended = s .ended }
 
 -- "go on as chosen or left"
 abbrev pub endedAs : ℕ → ℕ → ℕ
-endedAs how chosen = when (eqb how goesOn) (when (eqb chosen 0) left goesOn) how
+endedAs how chosen = when (eqb how goesOn) (when (eqb chosen 0) table.left goesOn) how
 
 -- the state entered, or how the session ended
 abbrev pub answerOf : ℕ → ℕ → ℕ → Answered
@@ -107,16 +118,24 @@ answerOf state how chosen = when (eqb state over) (when (eqb how goesOn) (goOn c
 abbrev pub entering : Session → ℕ → ℕ → StepOutcome
 entering s state how = record {
   answer = answerOf state how (s .chosen);
-  session = record { entry = s .entry; te = s .te; end = s .end; state = state; chosen = s .chosen; ended = how };
+  session = record { entry = s .entry; te = s .te; cadence = s .cadence; end = s .end; state = state; chosen = s .chosen; ended = how };
 }
 
 -- what a row leads to
 abbrev pub rowTaken : Session → To → StepOutcome
 rowTaken s to = entering s (to .0) (endedAs (to .1) (s .chosen))
 
--- "Any other pair of a state and its own end's event changes nothing and is answered 'same'."
+-- the session with another cadence
+abbrev pub withCadence : Session → Cadence → Session
+withCadence s c = record { entry = s .entry; te = s .te; cadence = c; end = s .end; state = s .state; chosen = s .chosen; ended = s .ended }
+
+-- a tone that is remembered: the state and the entry time stay, and it is answered "same"
+abbrev pub remembered : Session → ℕ → StepOutcome
+remembered s event = record { answer = same; session = withCadence s (remembering (s .cadence) event) }
+
+-- a row that leads to its own state remembers its event; "Any other pair of a state and its own end's event changes nothing and is answered 'same'."
 abbrev pub moved : Session → ℕ → ℕ → ℕ → RowFound → StepOutcome
-moved s event value now (At to) = rowTaken (renewed s event value now) to
+moved s event value now (At to) = when (eqb (to .0) (s .state)) (remembered s event) (rowTaken (renewed s event value now) to)
 moved s event value now Nothing = record { answer = same; session = s }
 
 -- "A refusal carries its number alone. Buffers and the session keep their values."

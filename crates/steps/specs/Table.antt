@@ -97,6 +97,19 @@ jmRefused = 3
 abbrev pub chosenItem : ℕ
 chosenItem = 4
 
+-- document 02, Req 04: "nothing is left to send", and no tone was heard yet; no tone was heard yet; ANSam or ANS was, and nothing is left
+abbrev pub nothingLeft : ℕ
+nothingLeft = 5
+
+abbrev pub noTone : ℕ
+noTone = 6
+
+abbrev pub behindAnsam : ℕ
+behindAnsam = 7
+
+abbrev pub behindAns : ℕ
+behindAns = 8
+
 -- a line's state, its event, the milliseconds elapsed, what else it asks for, the next state, and how the session ended
 abbrev row : ℕ → ℕ → ℕ → ℕ → ℕ → ℕ → Row
 row state event least condition next ended = record { to = record { 0 = next; 1 = ended }; state = state; event = event; least = least; condition = condition }
@@ -106,9 +119,14 @@ unfoldable pub rows : List Row
 rows =
     -- "elapsed 1,000: calling"
     row callerStill tick 1000 always calling going
-    -- "ANSam: quiet. ANS or sigA: over, left"
-    ∷ row calling ansam 0 always quiet going
-    ∷ row calling ans 0 always over left
+    -- "ANSam: quiet. ANS or sigA: over, left"; document 02, Req 04: "with that event if nothing is left to send, else with the first tick after the
+    -- last such bit". A row that leads to its own state remembers the tone
+    ∷ row calling ansam 0 nothingLeft quiet going
+    ∷ row calling ansam 0 noTone calling going
+    ∷ row calling ans 0 nothingLeft over left
+    ∷ row calling ans 0 noTone calling going
+    ∷ row calling tick 0 behindAnsam quiet going
+    ∷ row calling tick 0 behindAns over left
     ∷ row calling sigA 0 always over left
     -- "elapsed Te: menu (sends CM)"
     ∷ row quiet tick 0 teElapsed menu going

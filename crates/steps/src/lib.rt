@@ -1,21 +1,26 @@
-// Steps: the session of an end, how it starts, and what an event changes in it.
+// Steps: the session of an end, how it starts, what an event changes in it, and the bits that a caller gives out.
 //
 // One constant table, by state and event, is the rule. A step tests the session, the event and the clock, and looks up the row.
+use cadence::Cadence;
 use refusals::Refusal;
+use refusals::Wrote;
 ghost use mathlib.Core.Path.{_≡_};
 ghost use Rattle.laws.specs.Logic.{both};
 ghost use Rattle.refusals.specs.Refusals.{number};
+ghost use Rattle.cadence.specs.Cadence.{isFunction};
 ghost use Rattle.steps.specs.Table.{rows};
-ghost use Rattle.steps.specs.Session.{between, isItem, isChoice, isTe, endFits, ofEnd, stateFits, early, choiceFits, endedFits, inRange, callerFrom, answererFrom, defaultTe, saysStarted, startedCaller};
+ghost use Rattle.steps.specs.Session.{between, isItem, isChoice, isTe, endFits, ofEnd, stateFits, early, choiceFits, endedFits, beginning, cadenceOf, inRange, callerFrom, answererFrom, defaultTe, saysStarted, startedCaller};
 ghost use Rattle.steps.specs.Inner.{whatHolds};
-ghost use Rattle.steps.specs.Stepping.{saysAnswer, Steps, elapsed, owns, carries, rowFits, findRow, chosenAfter, renewed, endedAs, answerOf, entering, rowTaken, moved, refusedStep, timed, steppedIn, stepped};
+ghost use Rattle.steps.specs.Stepping.{saysAnswer, Steps, elapsed, owns, carries, isSent, rowFits, findRow, chosenAfter, renewed, endedAs, answerOf, entering, rowTaken, withCadence, remembered, moved, refusedStep, timed, steppedIn, stepped};
+ghost use Rattle.steps.specs.Drawing.{Draws, drawn};
 
 // What an end keeps of its call, as numbers, since a host in C holds it; docs/RANGES.md says what they may be. The time of the
-// start or of the last change of state, Te, which end this is, its state, the choice, and how the session ended.
+// start or of the last change of state, Te, the cadence of CI, which end this is, its state, the choice, and how the session ended.
 #[repr(C)]
 pub struct Session {
     pub entry: u32,
     pub te: u32,
+    pub cadence: Cadence,
     pub end: u8,
     pub state: u8,
     pub chosen: u8,
@@ -94,7 +99,16 @@ const JM_REFUSED: u8 = 3;
 
 const CHOSEN_ITEM: u8 = 4;
 
-// Where a row leads to: the next state, and how the session ended.
+// No tone was heard, and nothing is left to send of the cadence; no tone was heard; ANSam or ANS was heard, and nothing is left.
+const NOTHING_LEFT: u8 = 5;
+
+const NO_TONE: u8 = 6;
+
+const BEHIND_ANSAM: u8 = 7;
+
+const BEHIND_ANS: u8 = 8;
+
+// Where a row leads to: the next state, and how the session ended. One that leads to its own state remembers its event, a tone.
 struct To(u8, u8);
 
 // In this state, at this event, with so many milliseconds elapsed, where this condition holds. What it leads to stands first: the
@@ -108,7 +122,7 @@ struct Row {
 }
 
 // Document 01's table. The first row that applies counts, so an exception stands before the row that it is taken from.
-const ROWS: [Row; 19] = [
+const ROWS: [Row; 23] = [
     // elapsed 1,000: calling
     Row {
         state: CALLER_STILL,
@@ -117,19 +131,48 @@ const ROWS: [Row; 19] = [
         condition: ALWAYS,
         to: To(CALLING, GOING),
     },
-    // ANSam: quiet. ANS or sigA: over, left
+    // ANSam: quiet. ANS or sigA: over, left. Where CI is left to send, ANSam or ANS is remembered, and a tick behind its last bit
+    // makes the change
     Row {
         state: CALLING,
         event: ANSAM,
         least: 0,
-        condition: ALWAYS,
+        condition: NOTHING_LEFT,
         to: To(QUIET, GOING),
+    },
+    Row {
+        state: CALLING,
+        event: ANSAM,
+        least: 0,
+        condition: NO_TONE,
+        to: To(CALLING, GOING),
     },
     Row {
         state: CALLING,
         event: ANS,
         least: 0,
-        condition: ALWAYS,
+        condition: NOTHING_LEFT,
+        to: To(OVER, LEFT),
+    },
+    Row {
+        state: CALLING,
+        event: ANS,
+        least: 0,
+        condition: NO_TONE,
+        to: To(CALLING, GOING),
+    },
+    Row {
+        state: CALLING,
+        event: TICK,
+        least: 0,
+        condition: BEHIND_ANSAM,
+        to: To(QUIET, GOING),
+    },
+    Row {
+        state: CALLING,
+        event: TICK,
+        least: 0,
+        condition: BEHIND_ANS,
         to: To(OVER, LEFT),
     },
     Row {
@@ -295,7 +338,13 @@ pub struct Stepped {
     pub answer: Answer,
 }
 
-// A start with a given Te.
+// What asking for bits leaves: the session, and how many bits came.
+pub struct Drawn {
+    pub session: Session,
+    pub answer: Wrote,
+}
+
+// A caller's start.
 pub enum Started {
     Ready(Session),
     Refused(Refusal),
@@ -381,6 +430,26 @@ fn ended_fits(state: u8, none: bool, ended: u8) -> bool
     ended == GOING
 }
 
+// In the caller's first state nothing was sent and no tone was heard.
+fn begins(state: u8, sent: u8, tone: u8) -> bool
+    ensures { λ r. ⌜ r ≡ beginning state sent tone ⌝ }
+{
+    if state == CALLER_STILL {
+        return sent == 0 && tone == cadence::NO_TONE;
+    }
+    true
+}
+
+// The cadence is the caller's.
+fn cadence_fits(end: u8, state: u8, c: Cadence) -> bool
+    ensures { λ r. ⌜ r ≡ cadenceOf end state c ⌝ }
+{
+    if end == CALLER {
+        return cadence::fits(c) && begins(state, c.sent, c.tone);
+    }
+    cadence::is_none(c)
+}
+
 fn in_range(session: Session) -> bool
     ensures { λ r. ⌜ r ≡ inRange session ⌝ }
 {
@@ -389,15 +458,18 @@ fn in_range(session: Session) -> bool
     end_fits(session.end, session.te)
         && (state_fits(session.end, state)
             && (is_choice(session.chosen)
-                && (choice_fits(state, none) && ended_fits(state, none, session.ended))))
+                && (choice_fits(state, none)
+                    && (ended_fits(state, none, session.ended)
+                        && cadence_fits(session.end, state, session.cadence)))))
 }
 
-fn caller_from(start: u32, te: u32) -> Session
-    ensures { λ r. ⌜ r ≡ callerFrom start te ⌝ }
+fn caller_from(start: u32, te: u32, cadence: Cadence) -> Session
+    ensures { λ r. ⌜ r ≡ callerFrom start te cadence ⌝ }
 {
     Session {
         entry: start,
         te: te,
+        cadence: cadence,
         end: CALLER,
         state: CALLER_STILL,
         chosen: NONE,
@@ -405,21 +477,31 @@ fn caller_from(start: u32, te: u32) -> Session
     }
 }
 
-// A caller's start with a given Te.
-pub fn start_caller(start: u32, te: u32) -> Started
-    ensures { λ r. ⌜ saysStarted r ≡ startedCaller start te ⌝ }
+// Te, and a function that CI may name.
+fn may_call(te: u32, function: u8) -> bool
+    ensures { λ r. ⌜ r ≡ both (isTe te) (isFunction function) ⌝ }
 {
-    if is_te(te) {
-        return Started::Ready(caller_from(start, te));
+    is_te(te) && cadence::is_function(function)
+}
+
+// A caller's start with a given Te: the function that CI names, its sequences on, and its bit times off.
+pub fn start_caller(start: u32, te: u32, function: u8, on: u8, off: u16) -> Started
+    ensures { λ r. ⌜ saysStarted r ≡ startedCaller start te function on off ⌝ }
+{
+    if may_call(te, function) {
+        if cadence::is_cadence(on, off) {
+            return Started::Ready(caller_from(start, te, cadence::begin(function, on, off)));
+        }
+        return Started::Refused(Refusal::BadCadence);
     }
     Started::Refused(Refusal::BadRecord)
 }
 
 // A caller's start without a value for Te.
-pub fn start_caller_default(start: u32) -> Session
-    ensures { λ r. ⌜ r ≡ callerFrom start defaultTe ⌝ }
+pub fn start_caller_default(start: u32, function: u8, on: u8, off: u16) -> Started
+    ensures { λ r. ⌜ saysStarted r ≡ startedCaller start defaultTe function on off ⌝ }
 {
-    caller_from(start, DEFAULT_TE)
+    start_caller(start, DEFAULT_TE, function, on, off)
 }
 
 pub fn start_answerer(start: u32) -> Session
@@ -428,6 +510,7 @@ pub fn start_answerer(start: u32) -> Session
     Session {
         entry: start,
         te: 0,
+        cadence: cadence::no_cadence(),
         end: ANSWERER,
         state: ANSWERER_STILL,
         chosen: NONE,
@@ -471,16 +554,28 @@ fn may_take(end: u8, event: u8, value: u8) -> bool
     is_own(end, event) && may_carry(event, value)
 }
 
+// This tone was heard, or with NO_TONE none, and nothing is left to send.
+fn is_sent(tone: u8, c: Cadence) -> bool
+    ensures { λ r. ⌜ r ≡ isSent tone c ⌝ }
+{
+    c.tone == tone && cadence::bits_left(c) == 0
+}
+
 // What each condition comes to, by its number.
-fn what_holds(session: Session, value: u8, passed: u32) -> [bool; 5]
+fn what_holds(session: Session, value: u8, passed: u32) -> [bool; 9]
     ensures { λ r. ⌜ r ≡ whatHolds session value passed ⌝ }
 {
+    let c = session.cadence;
     [
         true,
         session.te <= passed,
         session.chosen == NONE,
         value == REFUSED_WITH_11,
         value == session.chosen,
+        is_sent(cadence::NO_TONE, c),
+        c.tone == cadence::NO_TONE,
+        is_sent(ANSAM, c),
+        is_sent(ANS, c),
     ]
 }
 
@@ -496,7 +591,7 @@ fn find_row(session: Session, event: u8, value: u8, passed: u32) -> RowFound
     let table = ROWS;
     let holding = what_holds(session, value, passed);
     let mut i: usize = 0;
-    while i < 19 {
+    while i < 23 {
         let row = table[i];
         if row_applies(
             row,
@@ -533,9 +628,11 @@ fn choice_after(event: u8, value: u8, chosen: u8) -> u8
 fn renew(session: Session, event: u8, value: u8, now: u32) -> Session
     ensures { λ r. ⌜ r ≡ renewed session event value now ⌝ }
 {
+    let cadence = session.cadence;
     Session {
         entry: now,
         te: session.te,
+        cadence: cadence,
         end: session.end,
         state: session.state,
         chosen: choice_after(event, value, session.chosen),
@@ -571,10 +668,12 @@ fn answer_of(state: u8, ended: u8, chosen: u8) -> Answer
 fn enter(session: Session, state: u8, ended: u8) -> Stepped
     ensures { λ r. ⌜ Steps (entering session state ended) r ⌝ }
 {
+    let cadence = session.cadence;
     Stepped {
         session: Session {
             entry: session.entry,
             te: session.te,
+            cadence: cadence,
             end: session.end,
             state: state,
             chosen: session.chosen,
@@ -590,6 +689,30 @@ fn take_row(session: Session, to: To) -> Stepped
     enter(session, to.0, ending_of(to.1, session.chosen))
 }
 
+fn with_cadence(session: Session, c: Cadence) -> Session
+    ensures { λ r. ⌜ r ≡ withCadence session c ⌝ }
+{
+    Session {
+        entry: session.entry,
+        te: session.te,
+        cadence: c,
+        end: session.end,
+        state: session.state,
+        chosen: session.chosen,
+        ended: session.ended,
+    }
+}
+
+// A row that leads to its own state: the tone is remembered, and all else stays.
+fn remember(session: Session, event: u8) -> Stepped
+    ensures { λ r. ⌜ Steps (remembered session event) r ⌝ }
+{
+    Stepped {
+        session: with_cadence(session, cadence::remember(session.cadence, event)),
+        answer: Answer::Same,
+    }
+}
+
 // The row that applies is taken; where none does, nothing changes.
 fn step_on(session: Session, event: u8, value: u8, now: u32, passed: u32) -> Stepped
     ensures { λ r. ⌜ Steps (moved session event value now (findRow session event value passed rows)) r ⌝ }
@@ -601,6 +724,9 @@ fn step_on(session: Session, event: u8, value: u8, now: u32, passed: u32) -> Ste
             answer: Answer::Same,
         };
     };
+    if to.0 == session.state {
+        return remember(session, event);
+    }
     take_row(renew(session, event, value, now), to)
 }
 
@@ -646,4 +772,29 @@ pub fn step(session: Session, event: u8, value: u8, now: u32) -> Stepped
         return step_in(session, event, value, now);
     }
     refuse_step(session, Refusal::BadRecord)
+}
+
+// The next bits that a caller gives out, as many as the buffer takes, or as are left behind ANSam or ANS; in calling alone.
+pub fn draw(session: Session, out: &mut [u8]) -> Drawn
+    ensures { λ r. ⌜ Draws (drawn session (now (out .entry))) r (now (out .exit)) ⌝ }
+{
+    if in_range(session) {
+        if session.state == CALLING {
+            let given = cadence::give(session.cadence, out);
+            let next = given.cadence;
+            let answer = given.answer;
+            return Drawn {
+                session: with_cadence(session, next),
+                answer: answer,
+            };
+        }
+        return Drawn {
+            session: session,
+            answer: Wrote::Count(0),
+        };
+    }
+    Drawn {
+        session: session,
+        answer: Wrote::Refused(Refusal::BadRecord),
+    }
 }

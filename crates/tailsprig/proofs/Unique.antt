@@ -11,12 +11,14 @@ use Rattle.menus.specs.Offer.{Read}
 use Rattle.fields.specs.Blocks.{Walked}
 use Rattle.steps.specs.Session.{Start}
 use Rattle.steps.specs.Stepping as stepping
+use Rattle.steps.specs.Drawing.{DrawOutcome}
 use Rattle.tailsprig.specs.declared.Ran.{Ran}
 use Rattle.tailsprig.specs.declared.MenuRead.{MenuRead}
 use Rattle.tailsprig.specs.declared.BlocksRead.{BlocksRead}
 use Rattle.tailsprig.specs.declared.CallerStart.{CallerStart}
 use Rattle.tailsprig.specs.declared.StepTaken.{StepTaken}
-use Rattle.tailsprig.specs.Exports.{Returns, HearsAs, RunsAs, ReadsAs, WalksAs, StartsAs, StepsAs}
+use Rattle.tailsprig.specs.declared.BitsDrawn.{BitsDrawn}
+use Rattle.tailsprig.specs.Exports.{Returns, HearsAs, RunsAs, ReadsAs, WalksAs, StartsAs, StepsAs, DrawsAs}
 
 pub returns-unique : (laid : WriteOutcome) (r s : ℤ) (after before : List ℕ) → Returns laid r after → Returns laid s before → (r ≡ s) × (after ≡ before)
 returns-unique laid r s after before p q = (p .answer ∙ sym (q .answer), p .buffer ∙ sym (q .buffer))
@@ -38,3 +40,6 @@ starts-as-unique laid a b p q = (p .answer ∙ sym (q .answer), p .session ∙ s
 
 pub steps-as-unique : (laid : stepping.StepOutcome) (a b : StepTaken) → StepsAs laid a → StepsAs laid b → (a .code ≡ b .code) × (a .session ≡ b .session)
 steps-as-unique laid a b p q = (p .answer ∙ sym (q .answer), p .session ∙ sym (q .session))
+
+pub draws-as-unique : (laid : DrawOutcome) (a b : BitsDrawn) (after before : List ℕ) → DrawsAs laid a after → DrawsAs laid b before → (a .code ≡ b .code) × (a .bits ≡ b .bits) × (a .session ≡ b .session) × (after ≡ before)
+draws-as-unique laid a b after before p q = (p .answer ∙ sym (q .answer), p .bits ∙ sym (q .bits), p .session ∙ sym (q .session), p .buffer ∙ sym (q .buffer))

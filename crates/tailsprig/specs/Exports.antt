@@ -10,15 +10,17 @@ use Rattle.menus.specs.Offer.{Read}
 use Rattle.fields.specs.Blocks.{Walked}
 use Rattle.steps.specs.Session.{Start}
 use Rattle.steps.specs.Stepping as stepping
+use Rattle.steps.specs.Drawing.{DrawOutcome}
 use Rattle.codes.specs.Writing.{writeCode}
 use Rattle.codes.specs.Hearing.{toldCode}
 use Rattle.codes.specs.Reading.{readCode, readOffer, walkCode, walkCount}
-use Rattle.codes.specs.Steps.{startCode, startSession, stepCode}
+use Rattle.codes.specs.Steps.{startCode, startSession, stepCode, drawCode, drawCount}
 use Rattle.tailsprig.specs.declared.Ran.{Ran}
 use Rattle.tailsprig.specs.declared.MenuRead.{MenuRead}
 use Rattle.tailsprig.specs.declared.BlocksRead.{BlocksRead}
 use Rattle.tailsprig.specs.declared.CallerStart.{CallerStart}
 use Rattle.tailsprig.specs.declared.StepTaken.{StepTaken}
+use Rattle.tailsprig.specs.declared.BitsDrawn.{BitsDrawn}
 
 -- a call that writes
 pub record Returns (laid : WriteOutcome) (r : ℤ) (after : List ℕ) : Type 0 where
@@ -46,7 +48,7 @@ pub record WalksAs (laid : Walked) (r : BlocksRead) : Type 0 where
   pub answer : r .code ≡ walkCode laid
   pub blocks : r .blocks ≡ walkCount laid
 
--- a start with a given Te
+-- a caller's start
 pub record StartsAs (laid : Start) (r : CallerStart) : Type 0 where
   pub answer : r .code ≡ startCode laid
   pub session : r .session ≡ startSession laid
@@ -55,3 +57,10 @@ pub record StartsAs (laid : Start) (r : CallerStart) : Type 0 where
 pub record StepsAs (laid : stepping.StepOutcome) (r : StepTaken) : Type 0 where
   pub answer : r .code ≡ stepCode (laid .answer)
   pub session : r .session ≡ laid .session
+
+-- bits that are asked for
+pub record DrawsAs (laid : DrawOutcome) (r : BitsDrawn) (after : List ℕ) : Type 0 where
+  pub answer : r .code ≡ drawCode (laid .answer)
+  pub bits : r .bits ≡ drawCount (laid .answer)
+  pub session : r .session ≡ laid .session
+  pub buffer : after ≡ laid .buffer

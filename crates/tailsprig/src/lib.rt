@@ -8,6 +8,7 @@ use menus::Offer;
 use menus::ReadMenu;
 use records::Record;
 use refusals::Refusal;
+use refusals::Wrote;
 use steps::Session;
 use steps::Started;
 ghost use mathlib.Core.Path.{_≡_};
@@ -22,12 +23,13 @@ ghost use Rattle.choices.specs.Choosing.{choiceOf};
 ghost use Rattle.offers.specs.Making.{sourceOf, madeCm, madeJm};
 ghost use Rattle.codes.specs.Choosing.{choiceCode, sourceCode};
 ghost use Rattle.sequences.specs.Writing.{writtenCj};
-ghost use Rattle.steps.specs.Session.{callerFrom, answererFrom, defaultTe, startedCaller};
+ghost use Rattle.steps.specs.Session.{answererFrom, defaultTe, saysStarted, startedCaller};
 ghost use Rattle.steps.specs.Stepping.{stepped};
+ghost use Rattle.steps.specs.Drawing.{drawn};
 ghost use Rattle.codes.specs.Steps.{carriedOf};
 ghost use Rattle.codes.specs.Writing.{kindOf, writtenAs};
 ghost use Rattle.codes.specs.Reading.{lookedCode};
-ghost use Rattle.tailsprig.specs.Exports.{Returns, HearsAs, RunsAs, ReadsAs, WalksAs, StartsAs, StepsAs};
+ghost use Rattle.tailsprig.specs.Exports.{Returns, HearsAs, RunsAs, ReadsAs, WalksAs, StartsAs, StepsAs, DrawsAs};
 
 #[no_mangle]
 pub extern "C" fn tailsprig_write(kind: u8, octets: &[u8], copies: u16, out: &mut [u8]) -> i32
@@ -235,12 +237,17 @@ pub struct StepTaken {
     pub code: i32,
 }
 
-// A caller's session from this time on, with a given Te.
-#[no_mangle]
-pub extern "C" fn tailsprig_start_caller(start: u32, te: u32) -> CallerStart
-    ensures { λ r. ⌜ StartsAs (startedCaller start te) r ⌝ }
+// Bits as C gets them: 0, how many came, and the session behind them, or a refusal and none.
+#[repr(C)]
+pub struct BitsDrawn {
+    pub session: Session,
+    pub bits: usize,
+    pub code: i32,
+}
+
+fn caller_start(started: Started) -> CallerStart
+    ensures { λ r. ⌜ StartsAs (saysStarted started) r ⌝ }
 {
-    let started = steps::start_caller(start, te);
     match started {
         Started::Ready(session) => CallerStart {
             session: session,
@@ -253,12 +260,31 @@ pub extern "C" fn tailsprig_start_caller(start: u32, te: u32) -> CallerStart
     }
 }
 
+// A caller's session from this time on, with a given Te, and with the cadence of its CI.
+#[no_mangle]
+pub extern "C" fn tailsprig_start_caller(
+    start: u32,
+    te: u32,
+    function: u8,
+    on: u8,
+    off: u16,
+) -> CallerStart
+    ensures { λ r. ⌜ StartsAs (startedCaller start te function on off) r ⌝ }
+{
+    caller_start(steps::start_caller(start, te, function, on, off))
+}
+
 // The same without a value for Te.
 #[no_mangle]
-pub extern "C" fn tailsprig_start_caller_default(start: u32) -> Session
-    ensures { λ r. ⌜ r ≡ callerFrom start defaultTe ⌝ }
+pub extern "C" fn tailsprig_start_caller_default(
+    start: u32,
+    function: u8,
+    on: u8,
+    off: u16,
+) -> CallerStart
+    ensures { λ r. ⌜ StartsAs (startedCaller start defaultTe function on off) r ⌝ }
 {
-    steps::start_caller_default(start)
+    caller_start(steps::start_caller_default(start, function, on, off))
 }
 
 // An answerer's session from this time on.
@@ -280,5 +306,27 @@ pub extern "C" fn tailsprig_step(session: Session, event: u8, value: i32, now: u
     StepTaken {
         session: next,
         code: codes::step_code(answer),
+    }
+}
+
+// The next bits that a caller sends of its CI, or silence.
+#[no_mangle]
+pub extern "C" fn tailsprig_draw(session: Session, out: &mut [u8]) -> BitsDrawn
+    ensures { λ r. ⌜ DrawsAs (drawn session (now (out .entry))) r (now (out .exit)) ⌝ }
+{
+    let given = steps::draw(session, out);
+    let next = given.session;
+    let answer = given.answer;
+    match answer {
+        Wrote::Count(n) => BitsDrawn {
+            session: next,
+            bits: n,
+            code: 0,
+        },
+        Wrote::Refused(r) => BitsDrawn {
+            session: next,
+            bits: 0,
+            code: codes::refusal_code(r),
+        },
     }
 }

@@ -6,7 +6,7 @@ use Prim.Native.Nat.{ℕ, _-_, _%_, _≤_}
 use mathlib.Core.Path.{_≡_, refl, ap}
 use denote.Ref.{now}
 use lib.ListN.{length, getD}
-use Rattle.fields.proofs.Pasted.{Pasted, pasted-more, pasted-length, pasted-all}
+use Rattle.laws.proofs.Pasted.{Pasted, pasted-more, pasted-length, pasted-all}
 use Rattle.fields.proofs.copy.Statement.{statement}
 use Rattle.fields.proofs.copy.Tie as tie
 

@@ -11,7 +11,7 @@ use Rattle.fields.specs.Packing.{extensionOf, extensionsFor, packed}
 use Rattle.fields.proofs.Packing.{packed-length}
 use Rattle.fields.proofs.Streams.{Streams, begins}
 use Rattle.fields.proofs.Packs.{next-five, packed-at}
-use Rattle.fields.proofs.Pasted.{Pasted, pasted-more, pasted-length, pasted-all}
+use Rattle.laws.proofs.Pasted.{Pasted, pasted-more, pasted-length, pasted-all}
 use Rattle.fields.proofs.pack.Statement.{statement}
 use Rattle.fields.proofs.pack.Tie as tie
 

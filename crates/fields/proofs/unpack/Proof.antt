@@ -13,7 +13,7 @@ use lib.Pow.{pow-mono}
 use Rattle.fields.specs.Packing.{fiveOf, octetsIn, optionBits, unpacked}
 use Rattle.fields.proofs.Packing.{unpacked-length, unpacked-at}
 use Rattle.fields.proofs.Streams.{Streams, begins, pull, emit, emitted, few, last}
-use Rattle.fields.proofs.Pasted.{Pasted, pasted-more, pasted-length, pasted-all}
+use Rattle.laws.proofs.Pasted.{Pasted, pasted-more, pasted-length, pasted-all}
 use Rattle.fields.proofs.unpack.Statement.{statement}
 use Rattle.fields.proofs.unpack.Tie as tie
 

@@ -7,7 +7,7 @@ use mathlib.Core.List.{List}
 use mathlib.Core.Path.{_≡_, sym, refl, _∙_}
 use denote.Ref.{now}
 use lib.ListN.{length}
-use Rattle.fields.proofs.Pasted.{Pasted, pasted-more, pasted-length, pasted-all}
+use Rattle.laws.proofs.Pasted.{Pasted, pasted-more, pasted-length, pasted-all}
 use Rattle.offers.specs.Making.{modulationGroup}
 use Rattle.offers.proofs.Making.{modulation-length, modulation-at}
 use Rattle.offers.proofs.write_modulation.Statement.{statement}

@@ -1,5 +1,5 @@
 -- `steps::find_row` meets its contract. Invariant: no row before row i applies, so the first that applies from i on is the first
--- of all. A row's condition is one of the five, as is computed over the table.
+-- of all. A row's condition is one of the nine, as is computed over the table.
 -- Assumes nothing.
 use borrow.Author.Needs.{needs}
 use native.Mathlib.Omega.{arith}
@@ -10,15 +10,15 @@ use mathlib.Core.Path.{_≡_, _∙_, sym, refl}
 use lib.ListN.{drop}
 use Rattle.steps.specs.Table.{rows}
 use Rattle.steps.specs.Stepping.{findRow}
-use Rattle.steps.proofs.Rows.{one-of-five, tested-at, found-at, found-behind}
+use Rattle.steps.proofs.Rows.{one-of-nine, tested-at, found-at, found-behind}
 use Rattle.steps.proofs.find_row.Statement.{statement}
 use Rattle.steps.proofs.find_row.Tie as tie
 
 abbrev Inv-loop : tie.InvT-loop
-Inv-loop session event value passed table holding i₀ i = (i ≤ 19) × (findRow session event value passed rows ≡ findRow session event value passed (drop i rows))
+Inv-loop session event value passed table holding i₀ i = (i ≤ 23) × (findRow session event value passed rows ≡ findRow session event value passed (drop i rows))
 
 abbrev μ-loop : tie.MeasureT-loop
-μ-loop session event value passed table holding i₀ i = 19 - i
+μ-loop session event value passed table holding i₀ i = 23 - i
 
 what-holds-requires : tie.Need-what-holds-requires Inv-loop μ-loop
 what-holds-requires c κs = search needs
@@ -34,11 +34,11 @@ array-copy-out-row c = search needs
 
 cast-row-applies : tie.Need-cast-row-applies Inv-loop μ-loop
 unfolding rows
-cast-row-applies c = fits-le (le-of-lt (one-of-five (c .before .before .before .loop .i) _ (search needs))) (fits-lit tt)
+cast-row-applies c = fits-le (le-of-lt (one-of-nine (c .before .before .before .loop .i) _ (search needs))) (fits-lit tt)
 
 array-read-row-applies : tie.Need-array-read-row-applies Inv-loop μ-loop
 unfolding rows
-array-read-row-applies c = one-of-five (c .before .before .before .loop .i) _ (search needs)
+array-read-row-applies c = one-of-nine (c .before .before .before .loop .i) _ (search needs)
 
 row-applies-requires : tie.Need-row-applies-requires Inv-loop μ-loop
 row-applies-requires c κs = search needs
@@ -49,7 +49,7 @@ returns c =
     let applying = c .before .before in
     let at-loop = applying .before .before .before .before in
     let a = at-loop .before .before .args in
-    let here : at-loop .loop .i < 19 = search needs in
+    let here : at-loop .loop .i < 23 = search needs in
     let test = tested-at (a .session) (a .event) (a .value) (a .passed) (at-loop .loop .i) _ _ _ here (at-loop .before .what-holds .ensures) in
     sym (at-loop .loop .inv .1 ∙ found-at _ _ _ _ (at-loop .loop .i) _ here (sym test ∙ sym (applying .row-applies .ensures) ∙ c .before .if1 .taken))
 
@@ -65,14 +65,14 @@ loop-again c =
     let applying = c .before in
     let at-loop = applying .before .before .before .before in
     let a = at-loop .before .before .args in
-    let here : at-loop .loop .i < 19 = search needs in
+    let here : at-loop .loop .i < 23 = search needs in
     let test = tested-at (a .session) (a .event) (a .value) (a .passed) (at-loop .loop .i) _ _ _ here (at-loop .before .what-holds .ensures) in
     (search needs, at-loop .loop .inv .1 ∙ found-behind _ _ _ _ (at-loop .loop .i) _ here (sym test ∙ sym (applying .row-applies .ensures) ∙ c .if1 .left))
 
 returns-2 : tie.Need-returns-2 Inv-loop μ-loop
 unfolding rows findRow
 returns-2 c =
-    let z : c .before .loop .i ≡ 19 = omega arith in
+    let z : c .before .loop .i ≡ 23 = omega arith in
     sym (c .before .loop .inv .1 ∙ simp z)
 
 pub find-row-spec : {M : Type 1} → statement M

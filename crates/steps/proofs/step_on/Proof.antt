@@ -2,6 +2,8 @@
 -- Assumes nothing.
 use mathlib.Core.Path.{refl}
 use borrow.Author.Needs.{needs}
+use borrow.Author.Tests.{eq-eqb, ne-eqb}
+use Rattle.laws.specs.Logic.{when}
 use Rattle.steps.proofs.step_on.Statement.{statement}
 use Rattle.steps.proofs.step_on.Tie as tie
 
@@ -17,16 +19,24 @@ enum-told c = search needs
 returns : tie.Need-returns
 returns c = simp (← c .before .before .find-row .ensures, c .enum-told .given .1) (record { answer = refl; session = refl })
 
+remember-requires : tie.Need-remember-requires
+remember-requires c κs = search needs
+
+returns-2 : tie.Need-returns-2
+unfolding when
+returns-2 c = simp (← c .before .before .before .before .before .before .before .find-row .ensures, c .before .before .before .before .before .found .given .1, eq-eqb _ _ (c .before .if1 .taken)) (c .remember .ensures)
+
 renew-requires : tie.Need-renew-requires
 renew-requires c κs = search needs
 
 take-row-requires : tie.Need-take-row-requires
 take-row-requires c κs = search needs
 
-returns-2 : tie.Need-returns-2
-returns-2 c =
+returns-3 : tie.Need-returns-3
+unfolding when
+returns-3 c =
     let renewed-first = rw (c .before .renew .ensures) at (c .take-row .ensures) in
-    simp (← c .before .before .before .before .before .find-row .ensures, c .before .before .before .found .given .1) renewed-first
+    simp (← c .before .before .before .before .before .before .before .before .find-row .ensures, c .before .before .before .before .before .before .found .given .1, ne-eqb _ _ (c .before .before .if1 .left)) renewed-first
 
 pub step-on-spec : {M : Type 1} → statement M
 step-on-spec =
@@ -36,6 +46,8 @@ step-on-spec =
     enum-known-found
     enum-told
     returns
+    remember-requires
+    returns-2
     renew-requires
     take-row-requires
-    returns-2)
+    returns-3)

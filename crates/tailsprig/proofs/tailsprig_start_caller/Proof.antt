@@ -1,9 +1,5 @@
--- `tailsprig::tailsprig_start_caller` meets its contract: whether the start is refused decides; a session goes out as it is, and beside a
--- refusal stands `noSession`.
+-- `tailsprig::tailsprig_start_caller` meets its contract: the start goes out as it is.
 -- Assumes nothing.
-use mathlib.Core.Path.{refl, sym, ap, _∙_}
-use Rattle.steps.specs.Session.{saysStarted}
-use Rattle.codes.proofs.Codes.{read-answer}
 use borrow.Author.Needs.{needs}
 use Rattle.tailsprig.proofs.tailsprig_start_caller.Statement.{statement}
 use Rattle.tailsprig.proofs.tailsprig_start_caller.Tie as tie
@@ -11,37 +7,11 @@ use Rattle.tailsprig.proofs.tailsprig_start_caller.Tie as tie
 start-caller-requires : tie.Need-start-caller-requires
 start-caller-requires c κs = search needs
 
-enum-known-started : tie.Need-enum-known-started
-enum-known-started c = search needs
-
-enum-known-started-2 : tie.Need-enum-known-started-2
-enum-known-started-2 c = search needs
-
-no-session-requires : tie.Need-no-session-requires
-no-session-requires c κs = search needs
-
-refusal-code-requires : tie.Need-refusal-code-requires
-refusal-code-requires c κs = search needs
+caller-start-requires : tie.Need-caller-start-requires
+caller-start-requires c κs = search needs
 
 returns : tie.Need-returns
-returns c =
-    let started = ap saysStarted (sym (c .before .started .given .1)) ∙ c .before .before .before .start-caller .ensures in
-    rw (sym started) (record { answer = refl; session = refl })
-
-returns-2 : tie.Need-returns-2
-returns-2 c =
-    let in-arm = c .before .before .before in
-    let refused = ap saysStarted (sym (in-arm .started2 .given .1)) ∙ in-arm .before .before .start-caller .ensures in
-    rw (sym refused) (record { answer = read-answer (c .refusal-code .result) (c .refusal-code .ok) ∙ c .refusal-code .ensures; session = c .before .no-session .ensures })
+returns c = rw (c .before .start-caller .ensures) at (c .caller-start .ensures)
 
 pub tailsprig-start-caller-spec : {M : Type 1} → statement M
-tailsprig-start-caller-spec =
-    tie.close
-    (tie.spec
-    start-caller-requires
-    enum-known-started
-    enum-known-started-2
-    no-session-requires
-    refusal-code-requires
-    returns
-    returns-2)
+tailsprig-start-caller-spec = tie.close (tie.spec start-caller-requires caller-start-requires returns)

@@ -1,4 +1,4 @@
--- A buffer that is filled from its front, element by element: what three loops of this crate do.
+-- A buffer that is filled from its front, element by element: what a loop does that writes.
 -- Assumes nothing.
 use Prim.Native.Nat.{ℕ, _+_, _<_, _≤_}
 use native.Mathlib.Numerals.{add-one}

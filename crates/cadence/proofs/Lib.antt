@@ -1,0 +1,5 @@
+pub mod Ranges
+pub mod Bits
+pub mod Outcomes
+pub mod Moves
+pub mod Left

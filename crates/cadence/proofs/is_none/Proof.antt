@@ -1,0 +1,33 @@
+-- `cadence::is_none` meets its contract: the tests of `isNone`, in its order, and the first that fails decides.
+-- Assumes nothing.
+use Rattle.laws.proofs.Cases.{cases}
+use Rattle.laws.specs.Logic.{both}
+use Rattle.cadence.proofs.is_none.Statement.{statement}
+use Rattle.cadence.proofs.is_none.Tie as tie
+
+returns : tie.Need-returns
+unfolding both
+returns c = search cases
+
+returns-2 : tie.Need-returns-2
+unfolding both
+returns-2 c = search cases
+
+returns-3 : tie.Need-returns-3
+unfolding both
+returns-3 c = search cases
+
+returns-4 : tie.Need-returns-4
+unfolding both
+returns-4 c = search cases
+
+returns-5 : tie.Need-returns-5
+unfolding both
+returns-5 c = search cases
+
+returns-6 : tie.Need-returns-6
+unfolding both
+returns-6 c = search cases
+
+pub is-none-spec : {M : Type 1} → statement M
+is-none-spec = tie.close (tie.spec returns returns-2 returns-3 returns-4 returns-5 returns-6)
