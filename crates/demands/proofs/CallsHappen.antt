@@ -23,16 +23,19 @@ use Rattle.records.specs.Record.{modesAt, anyBad, badRecord}
 use Rattle.offers.specs.Making.{modulationFrom}
 use Rattle.choices.specs.Choosing.{lowestFrom, pcmChoice, itemChoice, chosenFrom}
 use Rattle.records.specs.declared.Record.{Record}
+use Rattle.cadence.specs.Cadence.{isCadence}
+use Rattle.cadence.specs.Giving.{cadenceFits, left, movedOn, given}
 use Rattle.steps.specs.declared.Session.{Session}
 use Rattle.steps.specs.Table.{rows}
-use Rattle.steps.specs.Session.{isTe, inRange, callerFrom, answererFrom}
+use Rattle.steps.specs.Session.{isTe, inRange, answererFrom}
 use Rattle.steps.specs.Stepping.{Answered, same, entered, ended, goOn, refusal, elapsed, applies, findRow, timed, steppedIn}
-use Rattle.steps.specs.Runs.{Timed, next, entersAgreed}
+use Rattle.steps.specs.Drawing.{drawn}
+use Rattle.steps.specs.Runs.{Act, happens, asks, next, valueOf, entersAgreed}
 use Rattle.demands.specs.Joint.{cmOf, jmOf, isAvailable}
 use Rattle.demands.specs.OneChoice.{callerNames}
-use Rattle.demands.specs.WholeCall.{carried, Due, inTime, InOrder, all, waiting, comes, callerOrder, EndsJoint, byCj, bySigC, answererOrder}
+use Rattle.demands.specs.WholeCall.{carried, Due, inTime, behind, InOrder, all, waiting, comes, callerOrder, EndsJoint, byCj, bySigC, answererOrder}
 use Rattle.demands.specs.AnyEvents.{Carrying, done, more}
-use Rattle.demands.specs.CallsHappen.{Happens, CallsHappen}
+use Rattle.demands.specs.CallsHappen.{starts, Happens, CallsHappen}
 
 -- an answer that is "same"
 abbrev isSame : Answered → Bool
@@ -49,70 +52,80 @@ is-same (ended how) e = clash (sym e)
 is-same (goOn choice) e = clash (sym e)
 is-same (refusal n) e = clash (sym e)
 
--- the order, as a test that can be computed
-unfoldable ordered : List Timed → Session → List Due → Bool
+-- the order, as a test that can be computed: the first that can wait does
+abbrev idle : Session → Act → Bool
+idle s a = both (isSame (next s a .answer)) (eqb (next s a .session .cadence .tone) (s .cadence .tone))
+
+abbrev isDue : Session → Due → Act → Bool
+isDue s d (happens t) = both (eqb (t .event) (d .event)) (both (eqb (t .value) (d .value)) (inTime s d (t .now)))
+isDue s d (asks out) = false
+
+unfoldable ordered : List Act → Session → List Due → Bool
 ordered [] s [] = true
 ordered [] s (d ∷ ds) = false
-ordered (t ∷ ts) s [] = true
-ordered (t ∷ ts) s (d ∷ ds) =
-    when (isSame (next s t .answer)) (ordered ts s (d ∷ ds))
-    (both (eqb (t .event) (d .event)) (both (eqb (t .value) (d .value)) (both (inTime s d (t .now)) (ordered ts (next s t .session) ds))))
+ordered (a ∷ acts) s [] = true
+ordered (a ∷ acts) s (d ∷ ds) = when (idle s a) (ordered acts (next s a .session) (d ∷ ds)) (both (isDue s d a) (ordered acts (next s a .session) (behind s d ds)))
 
-in-order : (ts : List Timed) (s : Session) (ds : List Due) → ordered ts s ds ≡ true → InOrder s ds ts
+comes-by : (s : Session) (d : Due) (ds : List Due) (a : Act) (acts : List Act) → isDue s d a ≡ true → InOrder (next s a .session) (behind s d ds) acts → InOrder s (d ∷ ds) (a ∷ acts)
+comes-by s d ds (asks out) acts tested order = clash (sym tested)
+comes-by s d ds (happens t) acts tested order =
+    let event = both-true _ _ tested in
+    let value = both-true _ _ (event .1) in
+    comes (eqb-true _ _ (event .0)) (eqb-true _ _ (value .0)) (value .1) order
+
+in-order : (acts : List Act) (s : Session) (ds : List Due) → ordered acts s ds ≡ true → InOrder s ds acts
 unfolding ordered
 in-order [] s [] tested = all
 in-order [] s (d ∷ ds) tested = clash (sym tested)
-in-order (t ∷ ts) s [] tested = all
-in-order (t ∷ ts) s (d ∷ ds) holds =
-    either-way (λ (b : Bool). b ≡ true → InOrder s (d ∷ ds) (t ∷ ts)) (isSame (next s t .answer)) (ordered ts s (d ∷ ds)) _
-    (λ early tested. waiting (is-same (next s t .answer) early) (in-order ts s (d ∷ ds) tested))
-    (λ _ tested.
-    let event = both-true _ _ tested in
-    let value = both-true _ _ (event .1) in
-    let time = both-true _ _ (value .1) in
-    comes (eqb-true _ _ (event .0)) (eqb-true _ _ (value .0)) (time .0) (in-order ts (next s t .session) ds (time .1)))
+in-order (a ∷ acts) s [] tested = all
+in-order (a ∷ acts) s (d ∷ ds) holds =
+    either-way (λ (b : Bool). b ≡ true → InOrder s (d ∷ ds) (a ∷ acts)) (idle s a) (ordered acts (next s a .session) (d ∷ ds)) _
+    (λ early tested. let waits = both-true _ _ early in waiting (is-same (next s a .answer) (waits .0)) (eqb-true _ _ (waits .1)) (in-order acts (next s a .session) (d ∷ ds) tested))
+    (λ _ tested. let due = both-true _ _ tested in comes-by s d ds a acts (due .0) (in-order acts (next s a .session) (behind s d ds) (due .1)))
     holds
 
 -- and what agreed menus carry
-unfoldable carries : ℕ → List Timed → Session → Bool
+unfoldable carries : ℕ → List Act → Session → Bool
 carries choice [] s = true
-carries choice (t ∷ ts) s = both (when (entersAgreed (next s t .answer)) (eqb (t .value) choice) true) (carries choice ts (next s t .session))
+carries choice (a ∷ acts) s = both (when (entersAgreed (next s a .answer)) (eqb (valueOf a) choice) true) (carries choice acts (next s a .session))
 
-carrying : (choice : ℕ) (ts : List Timed) (s : Session) → carries choice ts s ≡ true → Carrying choice s ts
+carrying : (choice : ℕ) (acts : List Act) (s : Session) → carries choice acts s ≡ true → Carrying choice s acts
 unfolding carries when
 carrying choice [] s tested = done
-carrying choice (t ∷ ts) s tested =
+carrying choice (a ∷ acts) s tested =
     let tests = both-true _ _ tested in
-    more (carried-as (entersAgreed (next s t .answer)) (tests .0)) (carrying choice ts (next s t .session) (tests .1))
+    more (carried-as (entersAgreed (next s a .answer)) (tests .0)) (carrying choice acts (next s a .session) (tests .1))
   where
-    carried-as : (agreed : Bool) → when agreed (eqb (t .value) choice) true ≡ true → agreed ≡ true → t .value ≡ choice
+    carried-as : (agreed : Bool) → when agreed (eqb (valueOf a) choice) true ≡ true → agreed ≡ true → valueOf a ≡ choice
     carried-as true equal here = eqb-true _ _ equal
     carried-as false equal here = clash (sym here)
 
 -- a call, by what is computed of it
-happens : (choice : ℕ) (caller answerer : Record) (blocks : List ℕ) (last : Due) (callerEvents answererEvents : List Timed)
+computed : (choice : ℕ) (caller answerer : Record) (blocks : List ℕ) (last : Due) (callerActs answererActs : List Act)
     → (length (caller .functions) ≡ 6) × (badRecord caller ≡ false) → (length (answerer .functions) ≡ 6) × (badRecord answerer ≡ false) → isAvailable caller 6 ≡ true
-    → (leb (length (cmOf caller 6 blocks)) 64 ≡ true) × (blocksFault blocks ≡ 0) → carried (callerNames caller 6 blocks (jmOf answerer (cmOf caller 6 blocks))) ≡ choice → isTe 500 ≡ true → EndsJoint choice last
-    → (ordered callerEvents (callerFrom 0 500) (callerOrder 500 choice) ≡ true) × (carries choice callerEvents (callerFrom 0 500) ≡ true)
-    → (ordered answererEvents (answererFrom 0) (answererOrder last choice) ≡ true) × (carries choice answererEvents (answererFrom 0) ≡ true) → Happens choice caller answerer blocks last callerEvents answererEvents
-happens choice caller answerer blocks last callerEvents answererEvents calling answering available field named te closing called answered = record {
+    → (leb (length (cmOf caller 6 blocks)) 64 ≡ true) × (blocksFault blocks ≡ 0) → carried (callerNames caller 6 blocks (jmOf answerer (cmOf caller 6 blocks))) ≡ choice → (isTe 500 ≡ true) × (isCadence 3 120 ≡ true) → EndsJoint choice last
+    → (ordered callerActs starts (callerOrder 500 choice) ≡ true) × (carries choice callerActs starts ≡ true)
+    → (ordered answererActs (answererFrom 0) (answererOrder last choice) ≡ true) × (carries choice answererActs (answererFrom 0) ≡ true) → Happens choice caller answerer blocks last callerActs answererActs
+computed choice caller answerer blocks last callerActs answererActs calling answering available field named timed closing called answered = record {
   call = record { calling = record { six = calling .0; good = calling .1 }; answering = record { six = answering .0; good = answering .1 }; available = available; fits = leb-true _ _ (field .0) };
   sent = field .1;
   named = named;
-  te = te;
-  calling = in-order callerEvents _ _ (called .0);
+  te = timed .0;
+  cadence = timed .1;
+  calling = in-order callerActs _ _ (called .0);
   closing = closing;
-  answering = in-order answererEvents _ _ (answered .0);
-  callerCarries = carrying choice callerEvents _ (called .1);
-  answererCarries = carrying choice answererEvents _ (answered .1);
+  answering = in-order answererActs _ _ (answered .0);
+  callerCarries = carrying choice callerActs _ (called .1);
+  answererCarries = carrying choice answererActs _ (answered .1);
 }
 
 pub calls-happen : CallsHappen
-unfolding when both either joined firstFault untilCategory places placeOf hasItem setOf inSet itemBits modulationOctet firstGroup frontPart groupOf menuRead paired modesAt anyBad badRecord modulationFrom every joinedBits groupsOf packed blocksBehind full fieldOf lowestFrom pcmChoice itemChoice chosenFrom rows inRange elapsed applies findRow timed steppedIn ordered carries
+unfolding when both either joined firstFault untilCategory places placeOf hasItem setOf inSet itemBits modulationOctet firstGroup frontPart groupOf menuRead paired modesAt anyBad badRecord modulationFrom every joinedBits groupsOf packed blocksBehind full fieldOf lowestFrom pcmChoice itemChoice chosenFrom rows inRange elapsed applies findRow timed steppedIn drawn given movedOn cadenceFits left ordered carries
 calls-happen = record {
-  goesOn = happens _ _ _ _ _ _ _ (refl, refl) (refl, refl) refl (refl, refl) refl refl byCj (refl, refl) (refl, refl);
-  withBlocks = happens _ _ _ _ _ _ _ (refl, refl) (refl, refl) refl (refl, refl) refl refl byCj (refl, refl) (refl, refl);
-  bySigC = happens _ _ _ _ _ _ _ (refl, refl) (refl, refl) refl (refl, refl) refl refl (bySigC refl) (refl, refl) (refl, refl);
-  byPcm = happens _ _ _ _ _ _ _ (refl, refl) (refl, refl) refl (refl, refl) refl refl byCj (refl, refl) (refl, refl);
-  clears = happens _ _ _ _ _ _ _ (refl, refl) (refl, refl) refl (refl, refl) refl refl byCj (refl, refl) (refl, refl);
+  goesOn = computed _ _ _ _ _ _ _ (refl, refl) (refl, refl) refl (refl, refl) refl (refl, refl) byCj (refl, refl) (refl, refl);
+  withBlocks = computed _ _ _ _ _ _ _ (refl, refl) (refl, refl) refl (refl, refl) refl (refl, refl) byCj (refl, refl) (refl, refl);
+  inSilence = computed _ _ _ _ _ _ _ (refl, refl) (refl, refl) refl (refl, refl) refl (refl, refl) byCj (refl, refl) (refl, refl);
+  bySigC = computed _ _ _ _ _ _ _ (refl, refl) (refl, refl) refl (refl, refl) refl (refl, refl) (bySigC refl) (refl, refl) (refl, refl);
+  byPcm = computed _ _ _ _ _ _ _ (refl, refl) (refl, refl) refl (refl, refl) refl (refl, refl) byCj (refl, refl) (refl, refl);
+  clears = computed _ _ _ _ _ _ _ (refl, refl) (refl, refl) refl (refl, refl) refl (refl, refl) byCj (refl, refl) (refl, refl);
 }

@@ -6,7 +6,7 @@ use mathlib.Core.Path.{_≡_, refl, sym, ap, subst, _∙_}
 use mathlib.Core.Bool.{Bool, true, false, not}
 use mathlib.Core.List.{List, [], _∷_, _++_}
 use borrow.Author.Tests.{eqb-true, eqb-false, ltb-true}
-use lib.Dec.{ltb, eqb}
+use lib.Dec.{ltb, leb, eqb}
 use lib.ListN.{length, drop}
 use Rattle.laws.specs.Logic.{when, both}
 use Rattle.laws.proofs.Logic.{either-way}
@@ -32,7 +32,10 @@ use Rattle.offers.specs.Making.{recordFault, functionFault, sizeFault}
 use Rattle.choices.specs.Choosing.{refusal, chosenFrom, onRead, choiceOf}
 use Rattle.steps.specs.declared.Session.{Session}
 use Rattle.steps.specs.Table.{over, rows}
-use Rattle.steps.specs.Session.{inRange}
+use Rattle.cadence.specs.Cadence.{isFunction}
+use Rattle.cadence.specs.Giving.{begun}
+use Rattle.steps.specs.Session as starting
+use Rattle.steps.specs.Session.{isTe, inRange, Start, ready, callerFrom}
 use Rattle.steps.specs.Stepping.{StepOutcome, elapsed, owns, carries, findRow, moved, refusedStep, timed, steppedIn, stepped}
 use Rattle.steps.proofs.Refused.{in-time-is-not-refused}
 use Rattle.demands.specs.Joint.{cmOf, jmOf}
@@ -132,6 +135,18 @@ choice-eleven cm jm n none e =
     let jm-first = before-none (listFault Reading jm) 0 (cm-first .1) in
     eleven cm jm n (cm-first .0) (jm-first .0) (subst (Shared cm jm) e (choice-is-shared cm jm .shared))
 
+-- a start: by its tests
+by-start : (good : Start) (t f a b c d : Bool) → when (both t f) (when (both a (both b (both c d))) good (starting.refusal 16)) (starting.refusal 10)
+    ≡ answered good starting.refusal (firstOf (when t 0 10 ∷ when f 0 10 ∷ when (both a b) 0 16 ∷ when (both c d) 0 16 ∷ []))
+unfolding when both
+by-start good false f a b c d = refl
+by-start good true false a b c d = refl
+by-start good true true false b c d = refl
+by-start good true true true false c d = refl
+by-start good true true true true false d = refl
+by-start good true true true true true false = refl
+by-start good true true true true true true = refl
+
 -- steps: by the four tests
 by-tests : (s : Session) (moves : StepOutcome) (inside isOver own soon : Bool)
     → (firstOf (when inside 0 10 ∷ when isOver 7 0 ∷ when own 0 9 ∷ when soon 0 8 ∷ []) ≡ 0 → ⊥)
@@ -188,6 +203,7 @@ refusals-come-in-order = record {
   jm = λ own heard out. put-behind (recordFault own ∷ listFault Reading heard ∷ sizeFault (jmOf own heard) ∷ []) (roomFault (jmOf own heard) out) (jmOf own heard) out;
   choice = choice-order;
   eleven = choice-eleven;
+  start = λ now te function on off. by-start (ready (callerFrom now te (begun function on off))) (isTe te) (isFunction function) (leb 3 on) (leb on 20) (leb 120 off) (leb off 600);
   step = step-order;
   stepFine = λ s event value now n none e.
       let fine = step-fine s event value now none in

@@ -10,8 +10,9 @@ use borrow.Author.Tests.{eqb-true, ltb-false, eqb-false}
 use lib.Dec.{ltb, eqb}
 use lib.ListN.{length, drop}
 use lib.Seq.{drop-at}
-use Rattle.laws.specs.Logic.{when, either}
-use Rattle.laws.proofs.Logic.{either-way, clash}
+use Rattle.laws.specs.Logic.{when, both, either}
+use Rattle.laws.specs.Front.{front}
+use Rattle.laws.proofs.Logic.{either-way, both-true, clash}
 use Rattle.laws.proofs.Rest.{front-length}
 use Rattle.refusals.specs.Refusals.{before}
 use Rattle.refusals.specs.Lent.{Said, count, roomFault, put}
@@ -41,10 +42,19 @@ use Rattle.listening.proofs.Acts.{heard-not-a-bit}
 use Rattle.listening.proofs.Ranges.{fits-range, range-fits, fresh-fits, heard-range, heard-inside, heard-outside}
 use Rattle.listening.proofs.Many.{listened-fits, bits-in}
 use Rattle.stretches.specs.Hearing.{onceHeard, noted, reports}
+use Rattle.cadence.specs.declared.Cadence.{Cadence}
+use Rattle.cadence.specs.Cadence.{isFunction, isCadence, bitsFrom}
+use Rattle.cadence.specs.Giving.{cadenceFits, begun, due, GiveOutcome, giving, given}
+use Rattle.cadence.proofs.Bits.{bits-length}
+use Rattle.cadence.proofs.Ranges.{due-most}
+use Rattle.cadence.proofs.Outcomes.{given-in}
+use Rattle.steps.specs.declared.Session.{Session}
+use Rattle.steps.specs.Table.{calling}
+use Rattle.steps.specs.Drawing.{DrawOutcome, drawing, undrawn, drawn}
 use Rattle.steps.specs.Session.{isTe, ready, callerFrom, startedCaller}
 use Rattle.steps.specs.Session as steps
 use Rattle.steps.proofs.Refused.{StepNumber, after-over, clock, wrong-event, bad-session, refused-step}
-use Rattle.steps.proofs.Ranges.{step-keeps-range, outside-is-refused, caller-start-is-in-range, default-start-is-in-range, answerer-start-is-in-range}
+use Rattle.steps.proofs.Ranges.{step-keeps-range, draw-keeps-range, outside-is-refused, calling-cadence, caller-start-is-in-range, answerer-start-is-in-range}
 use Rattle.demands.specs.Joint.{cmOf, jmOf}
 use Rattle.demands.specs.Refusals.{oneOf, KeepsItsBytes, LentBuffersKeepTheirBytes, HeardThough, placeAfter, RefusedAtOneBit, RefusedBitsLeaveWhatIsLaidDown, StartsInRange, RefusalsLeaveWhatIsLaidDown}
 
@@ -101,6 +111,47 @@ as-asked : (asked : Asked) (octets : List ℕ) (n : ℕ) (out : List ℕ) → Ke
 as-asked (Known kind) octets n out = written-keeps kind octets n out
 as-asked Unknown octets n out = record { refused = λ r said. refl; later = λ size said. absurd (let z : ⊥ = omega (arith, ap countSaid said) in z); whole = refl }
 
+-- asking for bits: what is refused writes nothing, and what is given stands at the front
+unwritten : (said : Said) (out : List ℕ) → KeepsItsBytes out (record { answer = said; buffer = out })
+unwritten said out = record { refused = λ _ _. refl; later = λ _ _. refl; whole = refl }
+
+filled : (n : ℕ) (bits out : List ℕ) → length bits ≡ n → n ≤ length out → KeepsItsBytes out (record { answer = count n; buffer = front bits out })
+unfolding put when
+filled n bits out size room = subst (λ (k : ℕ). KeepsItsBytes out (record { answer = count k; buffer = front bits out })) size (put-keeps 0 bits out (λ _. omega (arith, size, room)))
+
+abbrev Undrawn : Session → DrawOutcome → Type 0
+Undrawn s o = (n : ℕ) → o .answer ≡ lent.refusal n → (o .session ≡ s) × (n ≡ 10)
+
+abbrev refusedAs : Said → ℕ
+refusedAs (count n) = 0
+refusedAs (lent.refusal n) = suc n
+
+not-refused : (s : Session) (o : DrawOutcome) (size : ℕ) → o .answer ≡ count size → Undrawn s o
+not-refused s o size counted n e = absurd (let z : ⊥ = omega (arith, ap refusedAs counted, ap refusedAs e) in z)
+
+module _ (s : Session) (out : List ℕ) where
+  draw-case : (P : DrawOutcome → Type 0) → P (undrawn (lent.refusal 10) s out) → P (undrawn (count 0) s out) → ((c : Cadence) → cadenceFits c ≡ true → P (drawing s (giving c (due c (length out)) out))) → P (drawn s out)
+  unfolding drawn
+  draw-case P refused none gives =
+      either-way P (steps.inRange s) _ (undrawn (lent.refusal 10) s out)
+      (λ inside. either-way P (eqb (s .state) calling) (drawing s (given (s .cadence) out)) (undrawn (count 0) s out)
+      (λ called. let fits = calling-cadence s inside (eqb-true (s .state) calling called) in subst (λ (g : GiveOutcome). P (drawing s g)) (sym (given-in (s .cadence) out fits)) (gives (s .cadence) fits)) (λ _. none))
+      (λ _. refused)
+
+  draw-keeps : KeepsItsBytes out (record { answer = drawn s out .answer; buffer = drawn s out .buffer })
+  draw-keeps =
+      draw-case (λ (o : DrawOutcome). KeepsItsBytes out (record { answer = o .answer; buffer = o .buffer })) (unwritten (lent.refusal 10) out) (unwritten (count 0) out)
+      (λ c _. let n = due c (length out) in filled n (bitsFrom (c .function) (c .on) (c .off) (c .place) n) out (bits-length (c .function) (c .on) (c .off) (c .place) n) (due-most c (length out)))
+
+  draw-refused : Undrawn s (drawn s out)
+  draw-refused =
+      draw-case (Undrawn s) (λ n e. (refl, let z : n ≡ 10 = omega (arith, ap refusedAs e) in z)) (not-refused s (undrawn (count 0) s out) 0 refl)
+      (λ c _. not-refused s (drawing s (giving c (due c (length out)) out)) (due c (length out)) refl)
+
+  draw-outside : steps.inRange s ≡ false → drawn s out ≡ undrawn (lent.refusal 10) s out
+  unfolding drawn when
+  draw-outside outside = simp outside
+
 buffers-kept : LentBuffersKeepTheirBytes
 buffers-kept = record {
   writing = written-keeps;
@@ -111,6 +162,7 @@ buffers-kept = record {
   readingField = λ heardCm out.
       let group = groupOf heardCm fieldTag in
       keeps-behind (listFault Reading heardCm ∷ packingFault group ∷ blocksFault (fieldOctets group) ∷ []) (fieldOctets group) out;
+  drawing = draw-keeps;
 }
 
 -- what a bit tells, as one number more than its refusal
@@ -281,8 +333,13 @@ step-number n clock = refl
 step-number n wrong-event = refl
 step-number n bad-session = refl
 
-starts : (now te : ℕ) → StartsInRange (startedCaller now te)
-starts now te = either-way StartsInRange (isTe te) (ready (callerFrom now te)) (steps.refusal 10) (caller-start-is-in-range now te) (λ _. refl)
+starts : (now te function on off : ℕ) → StartsInRange (startedCaller now te function on off)
+unfolding either
+starts now te function on off =
+    either-way StartsInRange (both (isTe te) (isFunction function)) _ (steps.refusal 10)
+    (λ good. either-way StartsInRange (isCadence on off) (ready (callerFrom now te (begun function on off))) (steps.refusal 16)
+    (λ lasting. caller-start-is-in-range now te function on off (both-true _ _ good .0) (both-true _ _ good .1) lasting) (λ _. refl))
+    (λ _. refl)
 
 many-range : (rec : Listener) (bits : List ℕ) → inRange rec ≡ true → inRange (heardBits rec bits .rec) ≡ true
 many-range rec bits inside =
@@ -296,15 +353,17 @@ refusals-leave-what-is-laid-down = record {
   events = record {
     kept = λ s event value now n e. refused-step s event value now n e .0;
     numbers = λ s event value now n e. step-number n (refused-step s event value now n e .1);
+    undrawn = draw-refused;
   };
   ranges = record {
     freshRecord = fits-range _ fresh-fits;
     bit = heard-range;
     bits = many-range;
     caller = starts;
-    defaultCaller = default-start-is-in-range;
     answerer = answerer-start-is-in-range;
     event = step-keeps-range;
+    drawing = draw-keeps-range;
     outside = outside-is-refused;
+    drawingOutside = draw-outside;
   };
 }

@@ -16,6 +16,7 @@ use Rattle.menus.specs.Pcm.{paired}
 use Rattle.offers.specs.Making.{modulationFrom}
 use Rattle.laws.specs.Joined.{joined}
 use Rattle.choices.specs.Choosing.{lowestFrom, pcmChoice, itemChoice, chosenFrom}
+use Rattle.cadence.specs.Giving.{cadenceFits}
 use Rattle.steps.specs.Table.{rows}
 use Rattle.steps.specs.Session.{inRange}
 use Rattle.steps.specs.Stepping.{elapsed, applies, findRow, timed, steppedIn}
@@ -23,7 +24,7 @@ use Rattle.demands.specs.HeardCount.{workedCounts}
 use Rattle.demands.specs.Worked.{AllHold, done, _and_, worked}
 
 pub worked-values-hold : AllHold worked
-unfolding when both either firstFault untilCategory framed framedAll sequence copies put places placeOf hasItem setOf itemBits modulationOctet modesAt anyBad badRecord modulationFrom every blocksBehind fieldOf joined firstGroup frontPart groupOf menuRead inSet paired lowestFrom pcmChoice itemChoice chosenFrom rows inRange elapsed applies findRow timed steppedIn
+unfolding when both either firstFault untilCategory framed framedAll sequence copies put places placeOf hasItem setOf itemBits modulationOctet modesAt anyBad badRecord modulationFrom every blocksBehind fieldOf joined firstGroup frontPart groupOf menuRead inSet paired lowestFrom pcmChoice itemChoice chosenFrom rows inRange elapsed applies findRow timed steppedIn cadenceFits
 worked-values-hold = refl and refl and refl and refl and refl and refl and refl and refl and refl and refl and refl and refl and refl and refl and refl and refl and refl and refl and refl and refl and done
 
 -- and those of request 03

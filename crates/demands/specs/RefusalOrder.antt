@@ -28,9 +28,11 @@ use Rattle.records.specs.declared.Record.{Record}
 use Rattle.records.specs.Record.{flag, inUse, badRecord}
 use Rattle.offers.specs.Making.{madeCm, madeJm}
 use Rattle.choices.specs.Choosing.{refusal, chosenFrom, choiceOf}
+use Rattle.cadence.specs.Giving.{begun}
 use Rattle.steps.specs.declared.Session.{Session}
 use Rattle.steps.specs.Table.{over}
-use Rattle.steps.specs.Session.{inRange}
+use Rattle.steps.specs.Session as starting
+use Rattle.steps.specs.Session.{between, inRange, ready, callerFrom, startedCaller}
 use Rattle.steps.specs.Stepping as stepping
 use Rattle.steps.specs.Stepping.{elapsed, owns, carries, refusedStep, stepped}
 use Rattle.demands.specs.Joint.{cmOf, jmOf}
@@ -92,6 +94,15 @@ stepFaults s event value now =
     ∷ when (ltb (elapsed now (s .entry)) 2147483648) 0 8
     ∷ []
 
+-- document 02, Req 04: "16 cadence outside these numbers, at the start, after 10": 10 for Te and for a function that is none of the six
+abbrev pub startFaults : ℕ → ℕ → ℕ → ℕ → List ℕ
+startFaults te function on off =
+    when (between 500 5000 te) 0 10
+    ∷ when (between 1 6 function) 0 10
+    ∷ when (between 3 20 on) 0 16
+    ∷ when (between 120 600 off) 0 16
+    ∷ []
+
 pub record RefusalsComeInOrder : Type 0 where
   -- "reading or writing octets 4, 5, then at the first bad octet 3 or 12"
   pub octets : (p : Purpose) (octets : List ℕ) → listFault p octets ≡ firstOf (tooMany octets ∷ noCallFunction octets ∷ octetFaults p (drop 1 octets))
@@ -113,6 +124,7 @@ pub record RefusalsComeInOrder : Type 0 where
   -- "the choice CM, JM, 11"
   pub choice : (cm jm : List ℕ) → choiceOf cm jm ≡ answered (chosenFrom (offerOf cm) (offerOf jm)) refusal (firstOf (listFault Reading cm ∷ listFault Reading jm ∷ []))
   pub eleven : (cm jm : List ℕ) (n : ℕ) → firstOf (listFault Reading cm ∷ listFault Reading jm ∷ []) ≡ 0 → choiceOf cm jm ≡ refusal n → n ≡ 11
+  pub start : (now te function on off : ℕ) → startedCaller now te function on off ≡ answered (ready (callerFrom now te (begun function on off))) starting.refusal (firstOf (startFaults te function on off))
   -- "steps 7, 9, 8"; "8 is tested on each"
   pub step : (s : Session) (event value now : ℕ) → (firstOf (stepFaults s event value now) ≡ 0 → ⊥) → stepped s event value now ≡ refusedStep (firstOf (stepFaults s event value now)) s
   pub stepFine : (s : Session) (event value now n : ℕ) → firstOf (stepFaults s event value now) ≡ 0 → stepped s event value now .answer ≡ stepping.refusal n → ⊥

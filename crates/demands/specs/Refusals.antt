@@ -24,9 +24,10 @@ use Rattle.records.specs.declared.Record.{Record}
 use Rattle.offers.specs.Making.{madeCm, madeJm}
 use Rattle.steps.specs.declared.Session.{Session}
 use Rattle.steps.specs.Session as steps
-use Rattle.steps.specs.Session.{Start, ready, defaultTe, callerFrom, answererFrom, startedCaller}
+use Rattle.steps.specs.Session.{Start, ready, answererFrom, startedCaller}
 use Rattle.steps.specs.Stepping as stepping
 use Rattle.steps.specs.Stepping.{refusedStep, stepped}
+use Rattle.steps.specs.Drawing.{drawn}
 use Rattle.codes.specs.declared.Asked.{Asked}
 use Rattle.codes.specs.Writing.{writtenAs}
 
@@ -52,6 +53,7 @@ pub record LentBuffersKeepTheirBytes : Type 0 where
   pub makingCm : (own : Record) (function : ℕ) (blocks out : List ℕ) → KeepsItsBytes out (madeCm own function blocks out)
   pub makingJm : (own : Record) (heardCm out : List ℕ) → KeepsItsBytes out (madeJm own heardCm out)
   pub readingField : (heardCm out : List ℕ) → KeepsItsBytes out (fieldRead heardCm out)
+  pub drawing : (s : Session) (out : List ℕ) → KeepsItsBytes out (record { answer = drawn s out .answer; buffer = drawn s out .buffer })
 
 -- a bit that was heard and refused: it is in the past, the framing goes on at this place, and "All these store nothing", so "Stored octets
 -- stay readable": both messages are as they were, in kind and in every octet
@@ -99,22 +101,25 @@ pub record RefusedEventsLeaveTheSession : Type 0 where
   pub kept : (s : Session) (event value now n : ℕ) → stepped s event value now .answer ≡ stepping.refusal n → stepped s event value now .session ≡ s
   -- a refusal has one of these numbers
   pub numbers : (s : Session) (event value now n : ℕ) → stepped s event value now .answer ≡ stepping.refusal n → oneOf (10 ∷ 7 ∷ 9 ∷ 8 ∷ []) n ≡ true
+  -- asking for bits: 10 alone
+  pub undrawn : (s : Session) (out : List ℕ) (n : ℕ) → drawn s out .answer ≡ lent.refusal n → (drawn s out .session ≡ s) × (n ≡ 10)
 
 abbrev pub StartsInRange : Start → Type 0
 StartsInRange (ready s) = steps.inRange s ≡ true
-StartsInRange (steps.refusal n) = n ≡ 10
+StartsInRange (steps.refusal n) = oneOf (10 ∷ 16 ∷ []) n ≡ true
 
 -- "docs/ states the ranges; a fresh record, a start and every call stay within them."
 pub record EveryCallStaysInRange : Type 0 where
   pub freshRecord : inRange fresh ≡ true
   pub bit : (rec : Listener) (bit : ℕ) → inRange rec ≡ true → inRange (heardBit rec bit .rec) ≡ true
   pub bits : (rec : Listener) (bits : List ℕ) → inRange rec ≡ true → inRange (heardBits rec bits .rec) ≡ true
-  pub caller : (now te : ℕ) → StartsInRange (startedCaller now te)
-  pub defaultCaller : (now : ℕ) → steps.inRange (callerFrom now defaultTe) ≡ true
+  pub caller : (now te function on off : ℕ) → StartsInRange (startedCaller now te function on off)
   pub answerer : (now : ℕ) → steps.inRange (answererFrom now) ≡ true
   pub event : (s : Session) (event value now : ℕ) → steps.inRange s ≡ true → steps.inRange (stepped s event value now .session) ≡ true
+  pub drawing : (s : Session) (out : List ℕ) → steps.inRange s ≡ true → steps.inRange (drawn s out .session) ≡ true
   -- "listening record or session with a field outside its range" is refused with 10, and keeps its value
   pub outside : (s : Session) (event value now : ℕ) → steps.inRange s ≡ false → stepped s event value now ≡ refusedStep 10 s
+  pub drawingOutside : (s : Session) (out : List ℕ) → steps.inRange s ≡ false → drawn s out ≡ record { answer = lent.refusal 10; buffer = out; session = s }
 
 -- demand 1
 pub record RefusalsLeaveWhatIsLaidDown : Type 0 where

@@ -18,6 +18,7 @@ use Rattle.records.specs.declared.Record.{Record}
 use Rattle.records.specs.Record.{noModes}
 use Rattle.offers.specs.Making.{madeCm, madeJm}
 use Rattle.choices.specs.Choosing.{Chosen, none, item, pcm, choiceOf}
+use Rattle.cadence.specs.declared.Cadence.{Cadence}
 use Rattle.steps.specs.declared.Session.{Session}
 use Rattle.steps.specs.Table.{quiet, menu, going, tick}
 use Rattle.steps.specs.Session.{caller}
@@ -101,9 +102,13 @@ cmWithPcm = 0xC1 ∷ 0x65 ∷ 0x10 ∷ 0x10 ∷ 0x27 ∷ 0x0D ∷ []
 abbrev jmWithPcm : List ℕ
 jmWithPcm = 0xC1 ∷ 0x65 ∷ 0x10 ∷ 0x10 ∷ 0x47 ∷ 0x8D ∷ []
 
--- quiet with this Te, from this time on
-abbrev pub quietFrom : ℕ → ℕ → Session
-quietFrom te entry = record { entry = entry; te = te; end = caller; state = quiet; chosen = 0; ended = going }
+-- quiet with this Te, from this time on, behind this cadence
+abbrev pub quietFrom : ℕ → ℕ → Cadence → Session
+quietFrom te entry c = record { entry = entry; te = te; cadence = c; end = caller; state = quiet; chosen = 0; ended = going }
+
+-- three CI sequences for data, and ANSam
+abbrev sentThree : Cadence
+sentThree = record { off = 120; place = 90; on = 3; function = 6; sent = 90; tone = 1 }
 
 -- A's CM on the line: "ten 1s, ten sync bits, then octets. Each octet is 0, then b0 to b7 (b0 first, weight 1), then 1."
 abbrev preamble : List ℕ
@@ -162,7 +167,7 @@ worked =
     ∷ writes Menu cmOfA 70 (count 70) lineOfA
     -- "elapsed from 4,294,967,000 to 79 is 375; to 204 it is 500, and Quiet with Te 500 ends." Document 02, Req 01: it "is one where the value is given."
     ∷ lasts 4294967000 79 375
-    ∷ ticks (quietFrom 500 4294967000) 79 quiet
+    ∷ ticks (quietFrom 500 4294967000 sentThree) 79 quiet
     ∷ lasts 4294967000 204 500
-    ∷ ticks (quietFrom 500 4294967000) 204 menu
+    ∷ ticks (quietFrom 500 4294967000 sentThree) 204 menu
     ∷ []
