@@ -104,11 +104,24 @@ pub mod c {
         pub digital: u8,
     }
 
-    #[derive(Clone, Copy, Debug, PartialEq, Eq)]
+    /// What a caller's session holds of its CI.
+    #[derive(Clone, Copy, Debug, Default, PartialEq, Eq)]
+    #[repr(C)]
+    pub struct Cadence {
+        pub off: u16,
+        pub place: u16,
+        pub on: u8,
+        pub function: u8,
+        pub sent: u8,
+        pub tone: u8,
+    }
+
+    #[derive(Clone, Copy, Debug, Default, PartialEq, Eq)]
     #[repr(C)]
     pub struct Session {
         pub entry: u32,
         pub te: u32,
+        pub cadence: Cadence,
         pub end: u8,
         pub state: u8,
         pub chosen: u8,
@@ -126,6 +139,14 @@ pub mod c {
     #[repr(C)]
     pub struct StepTaken {
         pub session: Session,
+        pub code: i32,
+    }
+
+    #[derive(Clone, Copy, Debug, PartialEq, Eq)]
+    #[repr(C)]
+    pub struct Drawn {
+        pub session: Session,
+        pub bits: usize,
         pub code: i32,
     }
 
@@ -172,14 +193,15 @@ pub mod c {
             own_cm_len: usize,
         ) -> u8;
         pub fn tailsprig_choice(cm: *const u8, cm_len: usize, jm: *const u8, jm_len: usize) -> i32;
-        pub fn tailsprig_start_caller(start: u32, te: u32) -> CallerStart;
-        pub fn tailsprig_start_caller_default(start: u32) -> Session;
+        pub fn tailsprig_start_caller(start: u32, te: u32, function: u8, on: u8, off: u16) -> CallerStart;
+        pub fn tailsprig_start_caller_default(start: u32, function: u8, on: u8, off: u16) -> CallerStart;
         pub fn tailsprig_start_answerer(start: u32) -> Session;
         pub fn tailsprig_step(session: Session, event: u8, value: i32, now: u32) -> StepTaken;
+        pub fn tailsprig_draw(session: Session, out: *mut u8, out_len: usize) -> Drawn;
     }
 }
 
-/// A refusal's number, 1 to 15.
+/// A refusal's number, 1 to 16.
 #[derive(Clone, Copy, Debug, PartialEq, Eq)]
 pub struct Refusal(pub u8);
 

@@ -3,10 +3,11 @@
 //! Where the pages leave room it follows `docs/DECISIONS.md`, as the library does: a comparison of the two tells whether both keep to
 //! the pages as they are read there, and not whether that reading is right.
 //!
-//! The modules follow the sections of document 01, and `fields` is request 02. What a comment has in double quotes is the text of a page,
+//! The modules follow the sections of document 01; `fields` is request 02, `cadence` request 04. What a comment has in double quotes is the text of a page,
 //! of document 01 where no request is named.
 
 mod bits;
+mod cadence;
 mod choice;
 mod fields;
 mod listening;
@@ -15,6 +16,7 @@ mod records;
 mod steps;
 
 pub use bits::Kind;
+pub use cadence::{Cadence, Tone};
 pub use choice::Choice;
 pub use fields::Block;
 pub use listening::{Listener, Message, Place, Report};
@@ -133,11 +135,71 @@ pub enum Mistake {
     JmOf65,
     /// In making a JM 6 comes before 4.
     RoomBeforeSize,
+    /// The off period is counted in sequences.
+    OffInSequences,
+    /// The cadence begins with the off period.
+    OffFirst,
+    /// Every CI names data.
+    CiForData,
+    /// Each time that bits are asked for the cadence begins anew.
+    BegunAnew,
+    /// ANSam and ANS end the calling at once, as they did before request 04.
+    AtOnce,
+    /// The sequence being sent is not finished, but for the first three.
+    SequenceCutOff,
+    /// The third sequence is not sent where fewer were.
+    ThirdNotFinished,
+    /// Three sequences are sent in the on period in which the tone comes.
+    ThirdOfEachPeriod,
+    /// Where no bit was asked for yet, none is left to send.
+    NothingAsked,
+    /// Between two sequences one more is left to send.
+    OneMoreAtBoundary,
+    /// In the off period a sequence is being sent too.
+    SilenceFinished,
+    /// The last tone that came decides.
+    LaterToneDecides,
+    /// ANS leads to quiet.
+    AnsToQuiet,
+    /// sigA lets the sequence be finished.
+    SigAWaits,
+    /// The time of a tone with bits left is the entry time.
+    ToneIsEntry,
+    /// The entry time stays that of calling where a tick ends it.
+    EntryOfCalling,
+    /// A tick ends the calling with one bit left.
+    TickBeforeLastBit,
+    /// The last bit ends the calling, without a tick.
+    LastBitLeads,
+    /// A tone that is refused with 8 is remembered.
+    RefusedToneCounts,
+    /// A tone that comes before calling is remembered.
+    ToneInStill,
+    /// Bits are given out before calling.
+    BitsInStill,
+    /// Bits are given out in quiet.
+    BitsInQuiet,
+    /// Bits are given out past those that are left to send.
+    BitsPastTheEnd,
+    /// An on period may have two sequences.
+    OnOf2,
+    /// An on period may have 21 sequences.
+    OnOf21,
+    /// An off period may have 119 bits.
+    OffOf119,
+    /// An off period may have 601 bits.
+    OffOf601,
+    /// A caller may start with function 7.
+    Function7,
+    /// A start with a function that is none is refused with 16.
+    FunctionWith16,
+    /// At a start 16 comes before 10.
+    CadenceFirst,
 }
 
 impl Mistake {
     /// Every mistake with the name that it is asked for by.
-    pub const ALL: [(&str, Mistake); 43] = [
+    pub const ALL: [(&str, Mistake); 73] = [
         ("room-for-one", Mistake::RoomForOne),
         ("nine-ones", Mistake::NineOnes),
         ("octet-55", Mistake::Octet55),
@@ -181,5 +243,35 @@ impl Mistake {
         ("extra-copied", Mistake::ExtraCopied),
         ("jm-of-65", Mistake::JmOf65),
         ("room-before-size", Mistake::RoomBeforeSize),
+        ("off-in-sequences", Mistake::OffInSequences),
+        ("off-first", Mistake::OffFirst),
+        ("ci-for-data", Mistake::CiForData),
+        ("begun-anew", Mistake::BegunAnew),
+        ("at-once", Mistake::AtOnce),
+        ("sequence-cut-off", Mistake::SequenceCutOff),
+        ("third-not-finished", Mistake::ThirdNotFinished),
+        ("third-of-each-period", Mistake::ThirdOfEachPeriod),
+        ("nothing-asked", Mistake::NothingAsked),
+        ("one-more-at-boundary", Mistake::OneMoreAtBoundary),
+        ("silence-finished", Mistake::SilenceFinished),
+        ("later-tone-decides", Mistake::LaterToneDecides),
+        ("ans-to-quiet", Mistake::AnsToQuiet),
+        ("sig-a-waits", Mistake::SigAWaits),
+        ("tone-is-entry", Mistake::ToneIsEntry),
+        ("entry-of-calling", Mistake::EntryOfCalling),
+        ("tick-before-last-bit", Mistake::TickBeforeLastBit),
+        ("last-bit-leads", Mistake::LastBitLeads),
+        ("refused-tone-counts", Mistake::RefusedToneCounts),
+        ("tone-in-still", Mistake::ToneInStill),
+        ("bits-in-still", Mistake::BitsInStill),
+        ("bits-in-quiet", Mistake::BitsInQuiet),
+        ("bits-past-the-end", Mistake::BitsPastTheEnd),
+        ("on-of-2", Mistake::OnOf2),
+        ("on-of-21", Mistake::OnOf21),
+        ("off-of-119", Mistake::OffOf119),
+        ("off-of-601", Mistake::OffOf601),
+        ("function-7", Mistake::Function7),
+        ("function-with-16", Mistake::FunctionWith16),
+        ("cadence-first", Mistake::CadenceFirst),
     ];
 }

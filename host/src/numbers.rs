@@ -2,9 +2,10 @@
 use crate::{
     c,
     model::{
-        Answer, Block, Choice, End, Ended, Event, Function, Kind, Listener, Menu, Message, Place, Record, Refusal, Report,
+        Answer, Block, Cadence, Choice, End, Ended, Event, Function, Kind, Listener, Menu, Message, Place, Record,
+        Refusal, Report, Session, Source, State, Tone,
     },
-    model::{Session, Source, State},
+    steps::SILENCE,
 };
 use std::ops::Range;
 
@@ -191,11 +192,42 @@ pub fn event(number: u8, value: i32) -> Event {
     }
 }
 
+/// How many bits are counted as sent: from there on every call is past its third CI.
+const SENT_MOST: u64 = 90;
+
+/// A caller's cadence, how many of its bits were given out, and the tone that ends it, where each number is in its range. Of the counts
+/// that the numbers stand for it is the least: behind the third CI the place is all that is kept of it.
+fn cadence(numbers: &c::Cadence) -> Option<(Cadence, u64, Option<Tone>)> {
+    let &c::Cadence { off, place, on, function, sent, tone } = numbers;
+    let cadence = match (function, on, off) {
+        (1..=6, 3..=20, 120..=600) => Cadence { function, on, off },
+        _ => return None,
+    };
+    let (place, sent) = (u64::from(place), u64::from(sent));
+    let given = match sent {
+        _ if place >= cadence.period() => return None,
+        0..SENT_MOST if place == sent => sent,
+        SENT_MOST if place < SENT_MOST => cadence.period() + place,
+        SENT_MOST => place,
+        _ => return None,
+    };
+    let tone = match tone {
+        0 => None,
+        1 => Some(Tone::Ansam),
+        2 => Some(Tone::Ans),
+        _ => return None,
+    };
+    Some((cadence, given, tone))
+}
+
 /// The session that the numbers stand for, where each is in its range of `docs/RANGES.md`.
 pub fn session(numbers: &c::Session) -> Option<Session> {
-    let end = match (numbers.end, numbers.te) {
-        (1, te @ 500..=5000) => End::Caller { te },
-        (2, 0) => End::Answerer,
+    let (end, given, tone) = match (numbers.end, numbers.te) {
+        (1, te @ 500..=5000) => {
+            let (cadence, given, tone) = cadence(&numbers.cadence)?;
+            (End::Caller { te, cadence }, given, tone)
+        }
+        (2, 0) if numbers.cadence == c::Cadence::default() => (End::Answerer, 0, None),
         _ => return None,
     };
     let chosen = match numbers.chosen {
@@ -221,24 +253,44 @@ pub fn session(numbers: &c::Session) -> Option<Session> {
         (_, 10, 5) if chosen != Choice::None => State::Over(Ended::GoOn),
         _ => return None,
     };
-    // No choice stands before a menu is agreed.
+    // No choice stands before a menu is agreed, no bit is given out before calling, and no tone counts.
     if matches!(numbers.state, 1..=4 | 7 | 8) && chosen != Choice::None {
         return None;
     }
-    Some(Session { end, state, chosen, entry: numbers.entry })
+    if state == State::CallerStill && (given, tone) != (0, None) {
+        return None;
+    }
+    Some(Session { end, state, chosen, entry: numbers.entry, given, tone })
 }
 
 /// A session as its numbers.
 pub fn of_session(session: &Session) -> c::Session {
-    let (end, te) = match session.end {
-        End::Caller { te } => (1, te),
-        End::Answerer => (2, 0),
+    let (end, te, cadence) = match session.end {
+        End::Caller { te, cadence } => (1, te, of_cadence(&cadence, session)),
+        End::Answerer => (2, 0, c::Cadence::default()),
     };
     let ended = match session.state {
         State::Over(ended) => of_ended(ended),
         _ => 0,
     };
-    c::Session { entry: session.entry, te, end, state: of_state(session.state), chosen: choice(session.chosen), ended }
+    let (state, chosen) = (of_state(session.state), choice(session.chosen));
+    c::Session { entry: session.entry, te, cadence, end, state, chosen, ended }
+}
+
+fn of_cadence(cadence: &Cadence, session: &Session) -> c::Cadence {
+    let &Cadence { function, on, off } = cadence;
+    let tone = match session.tone {
+        None => 0,
+        Some(Tone::Ansam) => 1,
+        Some(Tone::Ans) => 2,
+    };
+    let (place, sent) = (session.given % cadence.period(), session.given.min(SENT_MOST));
+    c::Cadence { off, place: place as u16, on, function, sent: sent as u8, tone }
+}
+
+/// What a caller draws, a byte for each bit time.
+pub fn drawn(bits: &[Option<u8>]) -> Vec<u8> {
+    bits.iter().map(|bit| bit.unwrap_or(SILENCE)).collect()
 }
 
 fn of_state(state: State) -> u8 {
@@ -270,10 +322,7 @@ fn of_ended(ended: Ended) -> u8 {
 pub fn started(answer: Result<Session, Refusal>) -> c::CallerStart {
     match answer {
         Ok(session) => c::CallerStart { session: of_session(&session), code: 0 },
-        Err(refusal) => c::CallerStart {
-            session: c::Session { entry: 0, te: 0, end: 0, state: 0, chosen: 0, ended: 0 },
-            code: refused(refusal),
-        },
+        Err(refusal) => c::CallerStart { session: c::Session::default(), code: refused(refusal) },
     }
 }
 

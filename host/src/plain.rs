@@ -6,7 +6,7 @@ mod steps;
 use crate::{Kind, Refusal};
 pub use fields::{block_at, cm, fields};
 pub use listener::{listing, Listener};
-pub use steps::step;
+pub use steps::{draw, step};
 
 fn is_category(octet: u8) -> bool {
     octet & 0x10 == 0

@@ -1,4 +1,4 @@
-//! Sessions and steps: what an end keeps of its call, and what an event changes in it.
+//! Sessions and steps: what an end keeps of its call, what an event changes in it, and the bits that a caller sends while it calls.
 use crate::{c, Choice, Refusal};
 
 /// An event, and what it carries. An agreed JM carries what `choice` answered, a refusal with 11 included.
@@ -97,19 +97,31 @@ impl Answer {
     }
 }
 
-/// The session of an end. Its numbers are the library's own, so they are in range and 10 is never answered to a step.
+/// A byte that a caller draws for a bit time in which the line is silent.
+pub const SILENCE: u8 = 2;
+
+/// The CI of a caller: the call function that each names, how many an on period has, and the bit times of silence behind it.
+#[derive(Clone, Copy, Debug, PartialEq, Eq)]
+pub struct Cadence {
+    pub function: u8,
+    pub on: u8,
+    pub off: u16,
+}
+
+/// The session of an end. Its numbers are the library's own, so they are in range and 10 is never answered to a step or a draw.
 #[derive(Clone, Copy, Debug, PartialEq, Eq)]
 pub struct Session(pub c::Session);
 
 impl Session {
     /// A caller's session from this time on, with a given Te or without a value.
-    pub fn caller(start: u32, te: Option<u32>) -> Result<Self, Refusal> {
-        let Some(te) = te else {
-            // SAFETY: takes and answers numbers.
-            return Ok(Session(unsafe { c::tailsprig_start_caller_default(start) }));
+    pub fn caller(start: u32, te: Option<u32>, Cadence { function, on, off }: Cadence) -> Result<Self, Refusal> {
+        // SAFETY: both take and answer numbers.
+        let started = unsafe {
+            match te {
+                Some(te) => c::tailsprig_start_caller(start, te, function, on, off),
+                None => c::tailsprig_start_caller_default(start, function, on, off),
+            }
         };
-        // SAFETY: takes and answers numbers.
-        let started = unsafe { c::tailsprig_start_caller(start, te) };
         crate::count(started.code).map(|_| Session(started.session))
     }
 
@@ -126,5 +138,12 @@ impl Session {
         let taken = unsafe { c::tailsprig_step(self.0, event, value, now) };
         self.0 = taken.session;
         crate::count(taken.code).map(|code| Answer::of(code as u32))
+    }
+    /// Draws the next bits of the cadence to the start of `out`, and answers how many these are.
+    pub fn draw(&mut self, out: &mut [u8]) -> Result<usize, Refusal> {
+        // SAFETY: the session goes and comes back by value; the slice is lent for the call alone, with its length.
+        let drawn = unsafe { c::tailsprig_draw(self.0, out.as_mut_ptr(), out.len()) };
+        self.0 = drawn.session;
+        crate::count(drawn.code).map(|_| drawn.bits)
     }
 }

@@ -1,7 +1,7 @@
 //! The texts of the vector files: octets, bits, records, blocks, refusals and reports.
 use crate::{
     c::{Modes, Record},
-    steps::{Answer, Event, State},
+    steps::{Answer, Cadence, Event, State, SILENCE},
     Choice, Kind, Refusal, Report,
 };
 
@@ -164,8 +164,42 @@ fn choice(text: &str) -> Result<Choice, String> {
     }
 }
 
+/// The cadence of a caller, `ON/OFF`, with the function of its CI.
+pub fn cadence(text: &str, function: &str) -> Result<Cadence, String> {
+    let (on, off) = text.split_once('/').ok_or(format!("'{text}' is no cadence"))?;
+    Ok(Cadence { function: number(function)?, on: number(on)?, off: number(off)? })
+}
+
+/// What is asked of a session: so many bits of its cadence, or what an event at this time changes.
+pub enum Asked {
+    Bits(usize),
+    Step(Event, u32),
+}
+
+/// `bits=N`, or an event.
+pub fn asked(text: &str) -> Result<Asked, String> {
+    match text.strip_prefix("bits=") {
+        Some(count) => number(count).map(Asked::Bits),
+        None => event(text).map(|(event, now)| Asked::Step(event, now)),
+    }
+}
+
+/// What came where bits were asked for: `out:` and these, `-` for a bit time of silence and `x` for what is neither; `.` where none came.
+pub fn show_drawn(drawn: &[u8]) -> String {
+    if drawn.is_empty() {
+        return "out:.".to_string();
+    }
+    let shown = |byte: &u8| match *byte {
+        0 => '0',
+        1 => '1',
+        SILENCE => '-',
+        _ => 'x',
+    };
+    format!("out:{}", drawn.iter().map(shown).collect::<String>())
+}
+
 /// `NAME@TIME`, with `=` and what it carries behind that.
-pub fn event(text: &str) -> Result<(Event, u32), String> {
+fn event(text: &str) -> Result<(Event, u32), String> {
     let (name, rest) = text.split_once('@').ok_or(format!("'{text}' has no time"))?;
     let (time, value) = match rest.split_once('=') {
         Some((time, value)) => (time, Some(value)),

@@ -8,7 +8,7 @@ fn differ(words: &[&str]) -> Output {
 }
 
 /// Every call, and every answer that the header names for it; a count or a place is told as 0, a block as 1 and none as 0.
-const ANSWERS: [(&str, &str); 19] = [
+const ANSWERS: [(&str, &str); 20] = [
     ("write", "-12 -10 -6 -5 -4 -3 0"),
     ("write_cj", "-6 0"),
     ("fresh and hear", "-13 -10 -4 -3 -2 -1 0 1 2 3 4"),
@@ -24,10 +24,11 @@ const ANSWERS: [(&str, &str); 19] = [
     ("jm", "-10 -6 -5 -4 -3 0"),
     ("call_function", "0 1 2"),
     ("choice", "-11 -5 -4 -3 0 1 2 3 4 5 6 7 8 9 10 11 12 17 18 19 20 21 22 23"),
-    ("start_caller", "-10 0"),
-    ("start_caller_default", "0"),
+    ("start_caller", "-16 -10 0"),
+    ("start_caller_default", "-16 -10 0"),
     ("start_answerer", "0"),
     ("step", "-10 -9 -8 -7 0 2 3 4 5 6 8 9 17 18 19 20 33 34 35 36 37 38 39 40 41 42 43 44 49 50 51 52 53 54 55"),
+    ("draw", "-10 0"),
 ];
 
 #[test]

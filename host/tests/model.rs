@@ -2,9 +2,11 @@
 use std::{fs, path::PathBuf};
 use tailsprig::{
     model::{
-        Answer, Block, Choice, Ended, Event, Kind, Listener, Model, Record, Refusal, Report, Session, Source, State,
+        Answer, Block, Cadence, Choice, Ended, Event, Kind, Listener, Model, Record, Refusal, Report, Session, Source,
+        State,
     },
-    numbers, steps, text,
+    numbers, steps,
+    text::{self, Asked},
 };
 
 /// The rows of a vector file. The last field of a row is what must be answered.
@@ -166,20 +168,28 @@ fn the_model_steps_as_the_vectors_say() {
         let start = number(&row[1]);
         let started = match (row[0].as_str(), row[2].as_str()) {
             ("answerer", _) => Ok(model.start_answerer(start)),
-            (_, "-") => model.start_caller(start, None),
-            (_, te) => model.start_caller(start, Some(number(te))),
+            (_, "-") => model.start_caller(start, None, cadence(&row[3], &row[4])),
+            (_, te) => model.start_caller(start, Some(number(te)), cadence(&row[3], &row[4])),
         };
         shown(started, |mut session| {
-            let answers = row[3].split(' ').map(|text| {
-                let (event, now) = text::event(text).expect("an event");
-                let before = session;
-                let answer = model.step(&mut session, of_text(event), now);
-                assert!(answer.is_ok() || session == before, "a refusal changed the session: {row:?}");
-                shown(answer, |answer| show_answer(answer, &session))
+            let answers = row[5].split(' ').map(|text| match text::asked(text).expect("bits or an event") {
+                Asked::Bits(count) => text::show_drawn(&numbers::drawn(&model.draw(&mut session, count))),
+                Asked::Step(event, now) => {
+                    let before = session;
+                    let answer = model.step(&mut session, of_text(event), now);
+                    assert!(answer.is_ok() || session == before, "a refusal changed the session: {row:?}");
+                    shown(answer, |answer| show_answer(answer, &session))
+                }
             });
             answers.collect::<Vec<_>>().join(" ")
         })
     });
+}
+
+/// The cadence of a caller in the vectors.
+fn cadence(text: &str, function: &str) -> Cadence {
+    let steps::Cadence { function, on, off } = text::cadence(text, function).expect("a cadence");
+    Cadence { function, on, off }
 }
 
 /// The model's event for the one that a text names.

@@ -3,7 +3,11 @@
 //! with 2 where a file cannot be read as vectors. A file's header line says what its rows are, and its name where two kinds of files have
 //! the same header.
 use std::{env, fs, path::Path, process::ExitCode};
-use tailsprig::{steps::Session, text, Choice, Listener, Refusal, Report, Source};
+use tailsprig::{
+    steps::Session,
+    text::{self, Asked},
+    Choice, Listener, Refusal, Report, Source,
+};
 
 /// What a row's call gives, in the text of its last column.
 type Call = fn(&[&str]) -> Result<String, String>;
@@ -21,7 +25,7 @@ const FILES: [(&str, &str, Call); 12] = [
     ("jm.tsv", "record\theard\troom\tanswer", jm),
     ("callf.tsv", "record\theard\town\tanswer", call_function),
     ("choice.tsv", "cm\tjm\tanswer", choice),
-    ("steps.tsv", "end\tstart\tte\tevents\tanswers", steps),
+    ("steps.tsv", "end\tstart\tte\tcadence\tfunction\tevents\tanswers", steps),
 ];
 
 /// The call for the rows of a file.
@@ -38,35 +42,31 @@ fn call_of(path: &str, header: &str) -> Result<Call, String> {
     }
 }
 
-/// A byte that is no bit, at each place another: what the writer must not touch.
+/// A byte that is no bit and no silence, at each place another: what the writer must not touch.
 fn untouched(room: usize) -> Vec<u8> {
-    (0..room).map(|at| 2 + (at % 251) as u8).collect()
+    (0..room).map(|at| 3 + (at % 251) as u8).collect()
 }
 
 fn write(row: &[&str]) -> Result<String, String> {
     let kind = text::kind(row[0])?;
     let octets = text::octets(row[1])?;
     let copies = text::number(row[2])?;
-    written(row[3], text::show_bits, |out| tailsprig::write(kind, &octets, copies, out))
+    Ok(written(text::number(row[3])?, text::show_bits, |out| tailsprig::write(kind, &octets, copies, out)))
 }
 
 /// What a call writes into a lent buffer of so many bytes, or its refusal; and whether it kept to that.
-fn written(
-    room: &str,
-    show: fn(&[u8]) -> String,
-    call: impl FnOnce(&mut [u8]) -> Result<usize, Refusal>,
-) -> Result<String, String> {
-    let lent = untouched(text::number(room)?);
+fn written(room: usize, show: fn(&[u8]) -> String, call: impl FnOnce(&mut [u8]) -> Result<usize, Refusal>) -> String {
+    let lent = untouched(room);
     let mut out = lent.clone();
     let (answer, count) = match call(&mut out) {
-        Ok(count) if count > out.len() => return Ok(format!("{count} written into {} bytes", out.len())),
+        Ok(count) if count > out.len() => return format!("{count} written into {} bytes", out.len()),
         Ok(count) => (show(&out[..count]), count),
         Err(refusal) => (text::show_refusal(refusal), 0),
     };
     if out[count..] != lent[count..] {
-        return Ok(format!("{answer}, and bytes behind that changed"));
+        return format!("{answer}, and bytes behind that changed");
     }
-    Ok(answer)
+    answer
 }
 
 /// How the bytes of a line arrive where many are heard at once: all together, or in pieces of these sizes in turn.
@@ -143,7 +143,7 @@ fn read(row: &[&str]) -> Result<String, String> {
 fn fields(row: &[&str]) -> Result<String, String> {
     let heard = text::octets(row[0])?;
     let show = |joined: &[u8]| format!("joined {} blocks {}", text::show_joined(joined), blocks_in(joined));
-    written(row[1], show, |out| tailsprig::fields(&heard, out))
+    Ok(written(text::number(row[1])?, show, |out| tailsprig::fields(&heard, out)))
 }
 
 fn blocks(row: &[&str]) -> Result<String, String> {
@@ -177,13 +177,13 @@ fn cm(row: &[&str]) -> Result<String, String> {
     let own = text::record(row[0])?;
     let function = text::number(row[1])?;
     let blocks = text::octets(row[2])?;
-    written(row[3], text::show_octets, |out| tailsprig::cm(&own, function, &blocks, out))
+    Ok(written(text::number(row[3])?, text::show_octets, |out| tailsprig::cm(&own, function, &blocks, out)))
 }
 
 fn jm(row: &[&str]) -> Result<String, String> {
     let own = text::record(row[0])?;
     let heard = text::octets(row[1])?;
-    written(row[2], text::show_octets, |out| tailsprig::jm(&own, &heard, out))
+    Ok(written(text::number(row[2])?, text::show_octets, |out| tailsprig::jm(&own, &heard, out)))
 }
 
 fn call_function(row: &[&str]) -> Result<String, String> {
@@ -209,8 +209,8 @@ fn choice(row: &[&str]) -> Result<String, String> {
 fn steps(row: &[&str]) -> Result<String, String> {
     let start = text::number(row[1])?;
     let started = match (row[0], row[2]) {
-        ("caller", "-") => Session::caller(start, None),
-        ("caller", te) => Session::caller(start, Some(text::number(te)?)),
+        ("caller", "-") => Session::caller(start, None, text::cadence(row[3], row[4])?),
+        ("caller", te) => Session::caller(start, Some(text::number(te)?), text::cadence(row[3], row[4])?),
         ("answerer", "-") => Ok(Session::answerer(start)),
         _ => return Err(format!("'{}' with Te '{}' is no end", row[0], row[2])),
     };
@@ -219,16 +219,36 @@ fn steps(row: &[&str]) -> Result<String, String> {
         Err(refusal) => return Ok(text::show_refusal(refusal)),
     };
     let mut answers = Vec::new();
-    for event in row[3].split(' ') {
-        let (event, now) = text::event(event)?;
+    for asked in row[5].split(' ') {
         let before = session;
-        answers.push(match session.step(event, now) {
-            Ok(answer) => text::show_answer(answer),
-            Err(refusal) if session == before => text::show_refusal(refusal),
-            Err(refusal) => format!("{} with a session that changed", text::show_refusal(refusal)),
+        answers.push(match text::asked(asked)? {
+            Asked::Bits(count) => drawn(&mut session, count),
+            Asked::Step(event, now) => match session.step(event, now) {
+                Ok(answer) => text::show_answer(answer),
+                Err(refusal) if session == before => text::show_refusal(refusal),
+                Err(refusal) => format!("{} with a session that changed", text::show_refusal(refusal)),
+            },
         });
     }
     Ok(answers.join(" "))
+}
+
+/// What a session gives out where so many bits are asked for; and whether they come the same one by one.
+fn drawn(session: &mut Session, count: usize) -> String {
+    let mut one_by_one = *session;
+    let mut bits = Vec::new();
+    for lent in untouched(count) {
+        let mut out = [lent];
+        match one_by_one.draw(&mut out) {
+            Ok(1) => bits.extend(out),
+            Ok(0) if out == [lent] => {}
+            other => return format!("{other:?} where one bit was asked for, and {out:?} in its place"),
+        }
+    }
+    match written(count, text::show_drawn, |out| session.draw(out)) {
+        answer if answer == text::show_drawn(&bits) && *session == one_by_one => answer,
+        answer => format!("{answer}, and {} one by one", text::show_drawn(&bits)),
+    }
 }
 
 /// The rows of a file, how many differ, and whether every line could be read.

@@ -1,10 +1,10 @@
 //! "Steps".
-use super::{Choice, Mistake, Model, Refusal};
+use super::{Cadence, Choice, Mistake, Model, Refusal, Tone};
 
-/// "Te is 500 to 5,000, given at the start". It is the caller's alone.
+/// "Te is 500 to 5,000, given at the start". It is the caller's alone, and so is the cadence of request 04.
 #[derive(Clone, Copy, Debug, PartialEq, Eq)]
 pub enum End {
-    Caller { te: u32 },
+    Caller { te: u32, cadence: Cadence },
     Answerer,
 }
 
@@ -41,6 +41,10 @@ pub struct Session {
     pub chosen: Choice,
     /// "The time of the start, then of each change of state, is the entry time."
     pub entry: u32,
+    /// How many bits of the cadence were given out, those of silence too.
+    pub given: u64,
+    /// ANSam or ANS, where one came with bits left to send.
+    pub tone: Option<Tone>,
 }
 
 #[derive(Clone, Copy, Debug, PartialEq, Eq)]
@@ -96,17 +100,17 @@ fn carries_what_it_may(event: Event) -> bool {
 }
 
 impl Model {
-    /// "Without a value, Te becomes 1,000." (Req 01). 10: "Te out of range".
-    pub fn start_caller(&self, start: u32, te: Option<u32>) -> Result<Session, Refusal> {
+    /// "Without a value, Te becomes 1,000." (Req 01).
+    pub fn start_caller(&self, start: u32, te: Option<u32>, cadence: Cadence) -> Result<Session, Refusal> {
         let te = te.unwrap_or(if self.makes(Mistake::DefaultTe500) { 500 } else { 1000 });
-        if !(500..=5000).contains(&te) {
-            return Err(Refusal(10));
-        }
-        Ok(Session { end: End::Caller { te }, state: State::CallerStill, chosen: Choice::None, entry: start })
+        self.test_start(te, &cadence)?;
+        let end = End::Caller { te, cadence };
+        Ok(Session { end, state: State::CallerStill, chosen: Choice::None, entry: start, given: 0, tone: None })
     }
 
     pub fn start_answerer(&self, start: u32) -> Session {
-        Session { end: End::Answerer, state: State::AnswererStill, chosen: Choice::None, entry: start }
+        let (end, state) = (End::Answerer, State::AnswererStill);
+        Session { end, state, chosen: Choice::None, entry: start, given: 0, tone: None }
     }
 
     /// Takes an event with its time. "steps 7, 9, 8"; "the session keep[s its] values" on a refusal.
@@ -126,15 +130,23 @@ impl Model {
             return Err(Refusal(9));
         }
         if clock_is_wrong {
+            if self.makes(Mistake::RefusedToneCounts) {
+                self.remember(session, event, now);
+            }
             return Err(Refusal(8));
         }
         // "Any other pair of a state and its own end's event changes nothing and is answered 'same'."
-        let Some(next) = self.next(session, event, elapsed) else { return Ok(Answer::Same) };
+        let Some(next) = self.next(session, event, elapsed) else {
+            self.remember(session, event, now);
+            return Ok(Answer::Same);
+        };
         if let Event::AgreedJm(Ok(choice)) | Event::AgreedCm(choice) = event {
             session.chosen = choice;
         }
+        let keeps_entry =
+            session.tone.is_some() && session.state == State::Calling && self.makes(Mistake::EntryOfCalling);
         session.state = next;
-        session.entry = now;
+        session.entry = if keeps_entry { session.entry } else { now };
         Ok(Answer::Entered(next))
     }
 
@@ -150,13 +162,13 @@ impl Model {
             // "Caller still | elapsed 1,000: calling"
             (State::CallerStill, Event::Tick) if least(1000) => Some(State::Calling),
 
-            // "Calling | ANSam: quiet. ANS or sigA: over, left"
-            (State::Calling, Event::Ansam) => Some(State::Quiet),
-            (State::Calling, Event::Ans | Event::SigA) => Some(State::Over(Ended::Left)),
+            // "Calling | ANSam: quiet. ANS or sigA: over, left", of which request 04 says when
+            (State::Calling, Event::SigA) if !self.makes(Mistake::SigAWaits) => Some(State::Over(Ended::Left)),
+            (State::Calling, _) => self.after_calling(session, event),
 
             // "Quiet | elapsed Te: menu (sends CM)"
             (State::Quiet, Event::Tick) => match session.end {
-                End::Caller { te } if least(te) => Some(State::Menu),
+                End::Caller { te, .. } if least(te) => Some(State::Menu),
                 _ => None,
             },
 

@@ -1,5 +1,6 @@
-//! Steps in plain Rust, over the same table: what the benchmark measures the proved step against.
-use crate::c::{Session, StepTaken};
+//! Steps in plain Rust, over the same table, and the bits of the cadence: what the benchmark measures the proved calls against.
+use crate::c::{Cadence, Drawn, Session, StepTaken};
+use crate::{plain::write, steps::SILENCE, Kind};
 
 // The states, as the session holds them.
 const CALLER_STILL: u8 = 1;
@@ -32,6 +33,10 @@ const SIG_C: u8 = 7;
 const CJ: u8 = 8;
 const TICK: u8 = 9;
 
+/// The bits of a CI, and of the three that are sent at least.
+const SEQUENCE: u16 = 30;
+const THIRD: u8 = 90;
+
 /// What an agreed JM carries whose choice was refused with 11.
 const REFUSED_WITH_11: i32 = -11;
 
@@ -39,6 +44,9 @@ const REFUSED_WITH_11: i32 = -11;
 #[derive(Clone, Copy)]
 enum Condition {
     Always,
+    LastCiSent,
+    LastCiSentForAnsam,
+    LastCiSentForAns,
     TeElapsed,
     NoneChosen,
     JmRefused,
@@ -61,12 +69,14 @@ const fn row(state: u8, event: u8, least: u32, condition: Condition, next: u8, e
     Row { state, event, least, condition, next, ended }
 }
 
-/// Document 01's table. The first row that applies counts.
-static ROWS: [Row; 19] = [
+/// Document 01's table, with request 04. The first row that applies counts.
+static ROWS: [Row; 21] = [
     row(CALLER_STILL, TICK, 1000, Always, CALLING, GOING),
-    row(CALLING, ANSAM, 0, Always, QUIET, GOING),
-    row(CALLING, ANS, 0, Always, OVER, LEFT),
+    row(CALLING, ANSAM, 0, LastCiSent, QUIET, GOING),
+    row(CALLING, ANS, 0, LastCiSent, OVER, LEFT),
     row(CALLING, SIG_A, 0, Always, OVER, LEFT),
+    row(CALLING, TICK, 0, LastCiSentForAnsam, QUIET, GOING),
+    row(CALLING, TICK, 0, LastCiSentForAns, OVER, LEFT),
     row(QUIET, TICK, 0, TeElapsed, MENU, GOING),
     row(MENU, AGREED_JM, 0, JmRefused, OVER, NOT_OFFERED),
     row(MENU, AGREED_JM, 0, Always, CLOSING, GOING),
@@ -88,10 +98,24 @@ fn is_choice(value: i32) -> bool {
     matches!(value, 0..=12 | 17..=23)
 }
 
+fn cadence_fits(cadence: &Cadence, state: u8) -> bool {
+    matches!(cadence.function, 1..=6)
+        && matches!(cadence.on, 3..=20)
+        && matches!(cadence.off, 120..=600)
+        && cadence.place < SEQUENCE * u16::from(cadence.on) + cadence.off
+        && (cadence.sent == THIRD || (cadence.sent < THIRD && cadence.place == u16::from(cadence.sent)))
+        && matches!(cadence.tone, 0 | ANSAM | ANS)
+        && (state != CALLER_STILL || (cadence.sent == 0 && cadence.tone == 0))
+}
+
 fn in_range(session: &Session) -> bool {
     let end_fits = match session.end {
-        1 => (500..=5000).contains(&session.te) && matches!(session.state, CALLER_STILL..=PAUSE | OVER),
-        2 => session.te == 0 && matches!(session.state, PAUSE..=OVER),
+        1 => {
+            (500..=5000).contains(&session.te)
+                && matches!(session.state, CALLER_STILL..=PAUSE | OVER)
+                && cadence_fits(&session.cadence, session.state)
+        }
+        2 => session.te == 0 && matches!(session.state, PAUSE..=OVER) && session.cadence == Cadence::default(),
         _ => false,
     };
     let none = session.chosen == 0;
@@ -122,9 +146,24 @@ fn may_carry(event: u8, value: i32) -> bool {
     }
 }
 
+/// How many bits are sent yet once ANSam or ANS comes.
+fn left(cadence: &Cadence) -> u8 {
+    if cadence.sent < THIRD {
+        return THIRD - cadence.sent;
+    }
+    if cadence.place < SEQUENCE * u16::from(cadence.on) {
+        return (cadence.place.next_multiple_of(SEQUENCE) - cadence.place) as u8;
+    }
+    0
+}
+
 fn holds(condition: Condition, session: &Session, value: i32, elapsed: u32) -> bool {
+    let is_sent_for = |tone| session.cadence.tone == tone && left(&session.cadence) == 0;
     match condition {
         Always => true,
+        LastCiSent => is_sent_for(0),
+        LastCiSentForAnsam => is_sent_for(ANSAM),
+        LastCiSentForAns => is_sent_for(ANS),
         TeElapsed => session.te <= elapsed,
         NoneChosen => session.chosen == 0,
         JmRefused => value == REFUSED_WITH_11,
@@ -139,6 +178,14 @@ fn code(session: &Session) -> i32 {
         (OVER, ended) => 16 + i32::from(ended),
         (state, _) => i32::from(state),
     }
+}
+
+/// The first of ANSam and ANS that comes in calling with bits left to send.
+fn remember(mut session: Session, event: u8) -> Session {
+    if session.state == CALLING && session.cadence.tone == 0 && matches!(event, ANSAM | ANS) {
+        session.cadence.tone = event;
+    }
+    session
 }
 
 /// Takes an event. Kept a call of its own, as a call over the C ABI is.
@@ -165,7 +212,7 @@ pub fn step(session: Session, event: u8, value: i32, now: u32) -> StepTaken {
             && holds(row.condition, &session, value, elapsed)
     };
     let Some(row) = ROWS.iter().find(applies) else {
-        return StepTaken { session, code: 0 };
+        return StepTaken { session: remember(session, event), code: 0 };
     };
     let chosen = match event {
         AGREED_JM if value == REFUSED_WITH_11 => 0,
@@ -175,4 +222,27 @@ pub fn step(session: Session, event: u8, value: i32, now: u32) -> StepTaken {
     let ended = if row.ended == GO_ON && chosen == 0 { LEFT } else { row.ended };
     let session = Session { entry: now, state: row.next, chosen, ended, ..session };
     StepTaken { session, code: code(&session) }
+}
+
+/// Draws the next bits of the cadence to the start of `out`. Kept a call of its own, as a call over the C ABI is.
+#[inline(never)]
+pub fn draw(mut session: Session, out: &mut [u8]) -> Drawn {
+    if !in_range(&session) {
+        return Drawn { session, bits: 0, code: -10 };
+    }
+    if session.state != CALLING {
+        return Drawn { session, bits: 0, code: 0 };
+    }
+    let cadence = &mut session.cadence;
+    let bits = if cadence.tone == 0 { out.len() } else { out.len().min(left(cadence).into()) };
+    let mut ci = [0; SEQUENCE as usize];
+    let _ = write(Kind::Ci, &[cadence.function << 5 | 1], 1, &mut ci);
+    let on = SEQUENCE * u16::from(cadence.on);
+    let period = on + cadence.off;
+    for byte in &mut out[..bits] {
+        *byte = if cadence.place < on { ci[usize::from(cadence.place % SEQUENCE)] } else { SILENCE };
+        cadence.place = if cadence.place + 1 == period { 0 } else { cadence.place + 1 };
+    }
+    cadence.sent = bits.min(usize::from(THIRD - cadence.sent)) as u8 + cadence.sent;
+    Drawn { session, bits, code: 0 }
 }

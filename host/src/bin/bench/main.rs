@@ -10,7 +10,7 @@ use std::path::Path;
 use std::process::{Command, Stdio};
 use std::time::Instant;
 use std::{env, fs, io, process};
-use tailsprig::c::{Block, Modes, Record, Session, StepTaken};
+use tailsprig::c::{Block, Cadence, Drawn, Modes, Record, Session, StepTaken};
 use tailsprig::{c, model::Model, plain, text, Kind, Listener, Report};
 
 const ROUNDS: usize = 200;
@@ -259,7 +259,7 @@ fn answers(start: Session, events: &[Event], step: impl Fn(Session, u8, i32, u32
     joined
 }
 
-/// Each of the calls, a session at its start and its events, again and again.
+/// Each of the calls, a session and its events, again and again.
 fn stepping(name: &str, calls: &[(Session, &[Event])]) {
     // SAFETY: takes and answers numbers.
     let ours = |session, event, value, now| unsafe { c::tailsprig_step(session, event, value, now) };
@@ -289,17 +289,63 @@ fn stepping(name: &str, calls: &[(Session, &[Event])]) {
     );
 }
 
-/// Whole calls of both ends; ticks that change nothing, in menu and in answering; and events that are refused before the table is
-/// looked at.
+/// A caller at its start, with half a second of CI for data and one and a half of silence behind it, and an answerer.
+const CADENCE: Cadence = Cadence { off: 450, place: 0, on: 5, function: 6, sent: 0, tone: 0 };
+const CALLER_AT_START: Session = Session { entry: 0, te: 500, cadence: CADENCE, end: 1, state: 1, chosen: 0, ended: 0 };
+const ANSWERER_AT_START: Session =
+    Session { entry: 0, te: 0, cadence: NO_CADENCE, end: 2, state: 7, chosen: 0, ended: 0 };
+const NO_CADENCE: Cadence = Cadence { off: 0, place: 0, on: 0, function: 0, sent: 0, tone: 0 };
+
+/// Whole calls of both ends, the caller's from calling on with the three CI sent that there are at least; ticks that change nothing, in
+/// menu and in answering; and events that are refused before the table is looked at.
 fn all_stepping() {
-    let caller = Session { entry: 0, te: 500, end: 1, state: 1, chosen: 0, ended: 0 };
-    let answerer = Session { entry: 0, te: 0, end: 2, state: 7, chosen: 0, ended: 0 };
-    stepping("step whole calls", &[(caller, &CALLER), (answerer, &ANSWERER)]);
+    let (caller, answerer) = (CALLER_AT_START, ANSWERER_AT_START);
+    let (still, called) = CALLER.split_at(1);
+    let calling = Session { entry: 1000, state: 2, cadence: Cadence { place: 90, sent: 90, ..CADENCE }, ..caller };
+    stepping("step whole calls", &[(caller, still), (calling, called), (answerer, &ANSWERER)]);
     let ticks: Vec<Event> = (0..100).map(|tick| (9, 0, 10 * tick)).collect();
     let waiting = [(Session { state: 4, ..caller }, &ticks[..]), (Session { state: 8, ..answerer }, &ticks[..])];
     stepping("step ticks that change nothing", &waiting);
     let refused: Vec<Event> = ticks.iter().map(|&(_, value, now)| (8, value, now)).collect();
     stepping("step events that are refused", &[(caller, &refused)]);
+}
+
+/// Draws as many bits as `out` holds, so many a call, from the first of a cadence on.
+fn drawn(out: &mut [u8], a_call: usize, draw: impl Fn(Session, &mut [u8]) -> Drawn) -> Session {
+    let mut session = Session { state: 2, ..CALLER_AT_START };
+    for piece in out.chunks_mut(a_call) {
+        session = black_box(draw(black_box(session), black_box(piece))).session;
+    }
+    session
+}
+
+/// So many bits of the cadence, so many a call.
+fn drawing(name: &str, bits: usize, a_call: usize) {
+    // SAFETY: the session goes by value; the slice is lent for the call alone, with its length.
+    let draw = |session, out: &mut [u8]| unsafe { c::tailsprig_draw(session, out.as_mut_ptr(), out.len()) };
+    let (mut ours, mut rust) = (vec![9; bits], vec![9; bits]);
+    assert_eq!(drawn(&mut ours, a_call, draw), drawn(&mut rust, a_call, plain::draw), "{name}: not the same session");
+    assert_eq!(ours, rust, "{name}: the two drew different bits");
+    let times = 100_000 / bits + 1;
+    compare(
+        name,
+        times * bits,
+        &mut || {
+            for _ in 0..times {
+                black_box(drawn(&mut ours, a_call, draw));
+            }
+        },
+        [
+            Some(&mut || {
+                for _ in 0..times {
+                    black_box(drawn(&mut rust, a_call, plain::draw));
+                }
+            }),
+            None,
+            None,
+            None,
+        ],
+    );
 }
 
 /// Some work, again and again, beside plain Rust of the same rules.
@@ -441,6 +487,9 @@ fn main() -> io::Result<()> {
     writing("write a menu of 5 octets, 1 copy", Kind::Menu, &MENU, 1);
     writing("write a menu of 5 octets, 100", Kind::Menu, &MENU, 100);
     writing("write a menu of 64 octets, 100", Kind::Menu, &long, 100);
+    drawing("draw a period, at once", 600, 600);
+    drawing("draw 10,000 bits, 30 a call", 10_000, 30);
+    drawing("draw 10,000 bits, one a call", 10_000, 1);
     hearing("menus", &menus(200_000), spandsp);
     hearing("recordings", &recordings(200_000)?, spandsp);
     hearing("random bits", &random(200_000), spandsp);

@@ -3,7 +3,7 @@ use crate::{fields, inputs, random::Random};
 use std::{collections::BTreeSet, fmt::Debug};
 use tailsprig::{
     c,
-    model::{Listener, Message, Model, Refusal, Session, State},
+    model::{Cadence, Listener, Message, Model, Refusal, Session, State},
     numbers, text,
 };
 
@@ -25,7 +25,7 @@ pub struct Difference {
     pub model: String,
 }
 
-pub const CALLS: [Call; 19] = [
+pub const CALLS: [Call; 20] = [
     Call { name: "write", share: 4, check: write },
     Call { name: "write_cj", share: 1, check: write_cj },
     Call { name: "fresh and hear", share: 7, check: hear },
@@ -41,10 +41,11 @@ pub const CALLS: [Call; 19] = [
     Call { name: "jm", share: 6, check: jm },
     Call { name: "call_function", share: 3, check: call_function },
     Call { name: "choice", share: 6, check: choice },
-    Call { name: "start_caller", share: 1, check: start_caller },
-    Call { name: "start_caller_default", share: 1, check: start_caller_default },
+    Call { name: "start_caller", share: 2, check: start_caller },
+    Call { name: "start_caller_default", share: 2, check: start_caller_default },
     Call { name: "start_answerer", share: 1, check: start_answerer },
-    Call { name: "step", share: 8, check: step },
+    Call { name: "step", share: 10, check: step },
+    Call { name: "draw", share: 4, check: draw },
 ];
 
 fn compared<T: PartialEq + Debug>(library: T, model: T, input: impl FnOnce() -> String) -> Result<(), Difference> {
@@ -60,12 +61,15 @@ struct Written {
     memory: Vec<u8>,
 }
 
+/// The state in which bits are given out.
+const CALLING: u8 = 2;
+
 /// How many bytes before and behind a lent buffer are looked at too.
 const AROUND: usize = 16;
 
-/// What lies in a lent buffer and around it before the call: bytes that are no bits, another at each place.
+/// What lies in a lent buffer and around it before the call: bytes that are no bits and no silence, another at each place.
 fn untouched(room: usize) -> Vec<u8> {
-    (0..room + 2 * AROUND).map(|at| 2 + (at % 251) as u8).collect()
+    (0..room + 2 * AROUND).map(|at| 3 + (at % 251) as u8).collect()
 }
 
 /// Compares what the library writes into a buffer of so many bytes with what the model says goes to its start. Answers the code.
@@ -378,19 +382,22 @@ fn choice(model: &Model, random: &mut Random, answers: &mut Answers) -> Result<(
 
 fn start_caller(model: &Model, random: &mut Random, answers: &mut Answers) -> Result<(), Difference> {
     let (start, te) = (inputs::time(random), inputs::te(random));
+    let (function, on, off) = (inputs::ci_function(random), inputs::on(random), inputs::off(random));
     // SAFETY: takes and answers numbers.
-    let library = unsafe { c::tailsprig_start_caller(start, te) };
+    let library = unsafe { c::tailsprig_start_caller(start, te, function, on, off) };
     answers.insert(library.code);
-    compared(library, numbers::started(model.start_caller(start, Some(te))), || format!("caller\t{start}\t{te}"))
+    let answer = numbers::started(model.start_caller(start, Some(te), Cadence { function, on, off }));
+    compared(library, answer, || format!("caller\t{start}\t{te}\t{on}/{off}\t{function}"))
 }
 
 fn start_caller_default(model: &Model, random: &mut Random, answers: &mut Answers) -> Result<(), Difference> {
     let start = inputs::time(random);
+    let (function, on, off) = (inputs::ci_function(random), inputs::on(random), inputs::off(random));
     // SAFETY: takes and answers numbers.
-    let session = unsafe { c::tailsprig_start_caller_default(start) };
-    let library = c::CallerStart { session, code: 0 };
-    answers.insert(0);
-    compared(library, numbers::started(model.start_caller(start, None)), || format!("caller\t{start}\t-"))
+    let library = unsafe { c::tailsprig_start_caller_default(start, function, on, off) };
+    answers.insert(library.code);
+    let answer = numbers::started(model.start_caller(start, None, Cadence { function, on, off }));
+    compared(library, answer, || format!("caller\t{start}\t-\t{on}/{off}\t{function}"))
 }
 
 fn start_answerer(model: &Model, random: &mut Random, answers: &mut Answers) -> Result<(), Difference> {
@@ -398,27 +405,37 @@ fn start_answerer(model: &Model, random: &mut Random, answers: &mut Answers) -> 
     // SAFETY: takes and answers numbers.
     let library = unsafe { c::tailsprig_start_answerer(start) };
     answers.insert(0);
-    compared(library, numbers::of_session(&model.start_answerer(start)), || format!("answerer\t{start}\t-"))
+    compared(library, numbers::of_session(&model.start_answerer(start)), || format!("answerer\t{start}\t-\t-\t-"))
 }
 
-/// Takes a session through events, from a start mostly, and compares each answer and the whole session behind it.
-fn step(model: &Model, random: &mut Random, answers: &mut Answers) -> Result<(), Difference> {
+/// A session to ask: from a start mostly.
+fn first_session(random: &mut Random) -> c::Session {
     let start = inputs::time(random);
+    let (function, on, off) = (inputs::ci_function(random), inputs::on(random), inputs::off(random));
     // SAFETY: take and answer numbers.
-    let first = unsafe {
+    unsafe {
         match random.below(4) {
             0 => c::tailsprig_start_answerer(start),
-            1 => c::tailsprig_start_caller_default(start),
-            // Where Te is refused this is the session beside the refusal, which is out of its ranges.
-            2 => c::tailsprig_start_caller(start, inputs::te(random)).session,
+            // Where these are refused this is the session beside the refusal, which is out of its ranges.
+            1 => c::tailsprig_start_caller_default(start, function, on, off).session,
+            2 => c::tailsprig_start_caller(start, inputs::te(random), function, on, off).session,
             _ => inputs::session(random),
         }
-    };
+    }
+}
+
+/// Takes a session through events, and draws bits between them; compares each answer and the whole session behind it.
+fn step(model: &Model, random: &mut Random, answers: &mut Answers) -> Result<(), Difference> {
+    let first = first_session(random);
     let mut session = first;
-    let mut events = Vec::new();
+    let mut asked = Vec::new();
     for _ in 0..1 + random.below(14) {
+        if random.one_in(if session.state == CALLING { 2 } else { 8 }) {
+            session = draw_some(model, random, &first, session, &mut asked)?.session;
+            continue;
+        }
         let (event, value, now) = inputs::event(random, &session);
-        events.push((event, value, now));
+        asked.push(show_event(event, value, now));
         // SAFETY: takes and answers numbers.
         let library = unsafe { c::tailsprig_step(session, event, value, now) };
         answers.insert(library.code);
@@ -429,26 +446,81 @@ fn step(model: &Model, random: &mut Random, answers: &mut Answers) -> Result<(),
             }
             None => c::StepTaken { code: -10, session },
         };
-        compared(library, answer, || {
-            let events: Vec<String> = events.iter().map(show_event).collect();
-            format!("{}\t{}", show_session(&first), events.join(" "))
-        })?;
+        compared(library, answer, || show_asked(&first, &asked))?;
         session = library.session;
     }
     Ok(())
 }
 
+/// Draws bits of a session again and again, without an event.
+fn draw(model: &Model, random: &mut Random, answers: &mut Answers) -> Result<(), Difference> {
+    let first = inputs::session(random);
+    let mut session = first;
+    let mut asked = Vec::new();
+    for _ in 0..1 + random.below(6) {
+        let drawn = draw_some(model, random, &first, session, &mut asked)?;
+        answers.insert(drawn.code);
+        session = drawn.session;
+    }
+    Ok(())
+}
+
+/// Draws some bits of a session, behind what was asked of it before, and compares them, the lent buffer and the session behind them.
+fn draw_some(
+    model: &Model,
+    random: &mut Random,
+    first: &c::Session,
+    session: c::Session,
+    asked: &mut Vec<String>,
+) -> Result<c::Drawn, Difference> {
+    let room = inputs::asked_for(random, &session);
+    asked.push(format!("bits={room}"));
+    let (bits, behind) = match numbers::session(&session) {
+        Some(mut session) => {
+            let bits = numbers::drawn(&model.draw(&mut session, room));
+            (Ok(bits), numbers::of_session(&session))
+        }
+        None => (Err(Refusal(10)), session),
+    };
+    let expected = c::Drawn {
+        session: behind,
+        bits: bits.as_ref().map_or(0, Vec::len),
+        code: bits.as_ref().map_or_else(|refusal| numbers::refused(*refusal), |_| 0),
+    };
+    let mut drawn = expected;
+    let library = |out: &mut [u8]| {
+        // SAFETY: the session goes by value; the slice is lent for the call alone, with its length.
+        drawn = unsafe { c::tailsprig_draw(session, out.as_mut_ptr(), out.len()) };
+        if drawn.code == 0 {
+            drawn.bits as i32
+        } else {
+            drawn.code
+        }
+    };
+    written(room, library, bits, || show_asked(first, asked))?;
+    compared(drawn, expected, || show_asked(first, asked))?;
+    Ok(drawn)
+}
+
+/// A session and what was asked of it, as a row of the vectors.
+fn show_asked(first: &c::Session, asked: &[String]) -> String {
+    format!("{}\t{}", show_session(first), asked.join(" "))
+}
+
 /// A start as the vectors give it, any other session by its numbers.
 fn show_session(session: &c::Session) -> String {
+    let c::Cadence { on, off, function, .. } = session.cadence;
     match numbers::session(session) {
-        Some(Session { state: State::CallerStill, .. }) => format!("caller\t{}\t{}", session.entry, session.te),
-        Some(Session { state: State::AnswererStill, .. }) => format!("answerer\t{}\t-", session.entry),
+        Some(Session { state: State::CallerStill, .. }) => {
+            format!("caller\t{}\t{}\t{on}/{off}\t{function}", session.entry, session.te)
+        }
+        Some(Session { state: State::AnswererStill, .. }) => format!("answerer\t{}\t-\t-\t-", session.entry),
         _ => format!("{session:?}"),
     }
 }
 
 /// An event as the vectors name it. What they have no name for is given by its numbers.
-fn show_event(&(event, value, now): &(u8, i32, u32)) -> String {
+fn show_event(event: u8, value: i32, now: u32) -> String {
     const NAMES: [&str; 9] = ["ansam", "ans", "siga", "jm", "cjsent", "cm", "sigc", "cj", "tick"];
     let carried = match (event, value) {
         (4 | 6, 0) => "=none".to_string(),

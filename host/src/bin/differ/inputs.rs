@@ -419,14 +419,86 @@ pub fn te(random: &mut Random) -> u32 {
     }
 }
 
+/// The function of a caller's CI.
+pub fn ci_function(random: &mut Random) -> u8 {
+    match random.below(8) {
+        0 => random.of(&[0, 7, 8, 32 + 1, 255]),
+        _ => 1 + random.byte() % 6,
+    }
+}
+
+/// How many CI an on period has.
+pub fn on(random: &mut Random) -> u8 {
+    match random.below(8) {
+        0 => random.of(&[0, 1, 2, 21, 22, 255]),
+        1..=4 => random.of(&[3, 3, 4, 5, 19, 20]),
+        _ => 3 + random.byte() % 18,
+    }
+}
+
+/// How many bit times of silence are behind them.
+pub fn off(random: &mut Random) -> u16 {
+    match random.below(8) {
+        0 => random.of(&[0, 118, 119, 601, 602, 65_535]),
+        1..=4 => random.of(&[120, 120, 121, 599, 600]),
+        _ => 120 + random.below(481) as u16,
+    }
+}
+
+/// A caller's cadence within its ranges: as it is before calling, behind a few bits, or far on; the places that count most often are
+/// the ends of sequences and of periods.
+fn cadence(random: &mut Random, is_still: bool) -> c::Cadence {
+    let mut cadence = c::Cadence {
+        off: off(random).clamp(120, 600),
+        on: on(random).clamp(3, 20),
+        function: 1 + random.byte() % 6,
+        ..c::Cadence::default()
+    };
+    if is_still {
+        return cadence;
+    }
+    let period = 30 * u16::from(cadence.on) + cadence.off;
+    let (place, sent) = match random.below(3) {
+        0 => {
+            let sent = random.below(90) as u8;
+            (sent.into(), sent)
+        }
+        1 => (random.below(period.into()) as u16, 90),
+        _ => {
+            let sequences = random.below(usize::from(cadence.on) + 1) as u16;
+            let end = random.of(&[30 * sequences, period]);
+            ((end + period + random.below(3) as u16 - 1) % period, 90)
+        }
+    };
+    (cadence.place, cadence.sent) = (place, sent);
+    cadence.tone = random.of(&[0, 0, 0, 1, 1, 2]);
+    cadence
+}
+
+/// Puts a number of a cadence outside its range, mostly.
+fn damage_cadence(random: &mut Random, cadence: &mut c::Cadence) {
+    let period = 30 * u16::from(cadence.on) + cadence.off;
+    match random.below(7) {
+        0 => cadence.function = ci_function(random),
+        1 => cadence.on = on(random),
+        2 => cadence.off = off(random),
+        3 => cadence.place = random.of(&[period, period + 1, 65_535, 0, cadence.place + 1]),
+        4 => cadence.sent = random.of(&[91, 89, 255, 0, cadence.sent + 1]),
+        5 => cadence.tone = random.of(&[3, 4, 255, 1, 2]),
+        _ => *cadence = c::Cadence::default(),
+    }
+}
+
 /// A session whose numbers are near their ranges, mostly in them.
 pub fn session(random: &mut Random) -> c::Session {
     let end = random.of(&[1, 2]);
-    let state = if end == 1 { random.of(&[1, 2, 3, 4, 5, 6, 6, 10]) } else { random.of(&[6, 6, 7, 8, 9, 9, 10]) };
+    let states: &[u8] = if end == 1 { &[1, 2, 2, 2, 3, 4, 5, 6, 6, 10] } else { &[6, 6, 7, 8, 9, 9, 10] };
+    let state = random.of(states);
     let chooses = matches!(state, 5 | 6 | 9 | 10);
     let mut session = c::Session {
         entry: time(random),
         te: if end == 1 { 500 + random.below(4501) as u32 } else { 0 },
+        cadence: if end == 1 { cadence(random, state == 1) } else { c::Cadence::default() },
         end,
         state,
         chosen: if chooses { choice(random) as u8 } else { 0 },
@@ -438,9 +510,30 @@ pub fn session(random: &mut Random) -> c::Session {
         2 => session.state = random.byte() % 13,
         3 => session.chosen = if random.one_in(2) { random.byte() % 26 } else { random.byte() },
         4 => session.ended = random.byte() % 8,
+        5 | 6 => damage_cadence(random, &mut session.cadence),
         _ => {}
     }
     session
+}
+
+/// How many bits of its cadence a session is asked for: none, a few, up to the end of a sequence or to the third, a period and more; once in
+/// a long time more than a number of the session can hold.
+pub fn asked_for(random: &mut Random, session: &c::Session) -> usize {
+    let c::Cadence { off, place, on, sent, .. } = session.cadence;
+    let to_end = 30 - usize::from(place) % 30;
+    let to_third = 90usize.saturating_sub(sent.into());
+    let period = 30 * usize::from(on) + usize::from(off);
+    let to_period = period.saturating_sub(place.into());
+    match random.below(16) {
+        0 => random.below(2),
+        1..=4 => random.below(35),
+        5..=7 => to_end + random.below(3) - 1,
+        8..=10 => to_third.max(1) + random.below(3) - 1,
+        11 | 12 => to_period.max(1) + random.below(3) - 1,
+        13 | 14 => random.below(700),
+        _ if random.one_in(40) => 65_536 + random.below(1300),
+        _ => random.below(3000),
+    }
 }
 
 fn choice(random: &mut Random) -> i32 {
@@ -457,7 +550,8 @@ pub fn event(random: &mut Random, session: &c::Session) -> (u8, i32, u32) {
     const ANSWERERS: [u8; 4] = [6, 7, 8, 9];
     let (awaited, wait): (&[u8], u32) = match session.state {
         1 => (&[9], 1000),
-        2 => (&[1, 1, 1, 2, 3], 0),
+        2 if session.cadence.tone == 0 => (&[1, 1, 1, 2, 3, 9], 0),
+        2 => (&[9, 9, 9, 9, 1, 2, 3], 0),
         3 => (&[9], session.te),
         4 => (&[4, 4, 9], 10_000),
         5 => (&[5], 0),
