@@ -1,6 +1,6 @@
 //! The plain Rust that the library is timed and compared with keeps to the same vectors and recordings, and answers the same steps.
 use std::{fs, path::PathBuf};
-use tailsprig::c::{Block, Session, Span};
+use tailsprig::c::{Block, Cadence, Session, Span};
 use tailsprig::{c, plain, text, Refusal};
 
 fn tests(name: &str) -> PathBuf {
@@ -110,13 +110,36 @@ fn plain_fields_and_menus_are_those_of_the_vectors() {
     });
 }
 
+/// A caller's cadence at its start, within the third CI, and behind it; with a tone that came; each of its numbers just outside its range;
+/// and none, as the answerer has it.
+fn cadences() -> Vec<Cadence> {
+    let start = Cadence { off: 120, place: 0, on: 4, function: 6, sent: 0, tone: 0 };
+    let within = Cadence { place: 89, sent: 89, ..start };
+    let behind = [90, 91, 119, 120, 121, 239, 0, 29].map(|place| Cadence { place, sent: 90, ..start });
+    let mut cadences = vec![Cadence::default(), start, within];
+    cadences.extend(behind);
+    let toned = cadences.iter().skip(2).flat_map(|&cadence| [1, 2].map(|tone| Cadence { tone, ..cadence }));
+    cadences.extend(toned.collect::<Vec<_>>());
+    let [last, ..] = behind;
+    cadences.extend([0, 7].map(|function| Cadence { function, ..last }));
+    cadences.extend([2, 21].map(|on| Cadence { on, ..last }));
+    cadences.extend([119, 601].map(|off| Cadence { off, ..last }));
+    cadences.extend([240, 65_535].map(|place| Cadence { place, ..last }));
+    cadences.extend([89, 91].map(|sent| Cadence { sent, ..last }));
+    cadences.push(Cadence { tone: 3, ..last });
+    cadences
+}
+
 /// Sessions in their ranges and just outside, each at the entry time 1,000.
 fn sessions() -> impl Iterator<Item = Session> {
     let ends_and_states = (0..4).flat_map(|end| (0..12).map(move |state| (end, state)));
-    ends_and_states.flat_map(|(end, state)| {
+    let with_cadence = ends_and_states.flat_map(|(end, state)| {
+        cadences().into_iter().map(move |cadence| Session { entry: 1000, cadence, end, state, ..Session::default() })
+    });
+    with_cadence.flat_map(|session| {
         [0, 499, 500, 700, 5000, 5001].into_iter().flat_map(move |te| {
-            [0, 1, 3, 12, 13, 16, 17, 23, 24].into_iter().flat_map(move |chosen| {
-                (0..7).map(move |ended| Session { entry: 1000, te, end, state, chosen, ended })
+            [0, 3, 12, 13, 16, 17, 23, 24].into_iter().flat_map(move |chosen| {
+                [0, 1, 4, 5, 6].into_iter().map(move |ended| Session { te, chosen, ended, ..session })
             })
         })
     })
@@ -128,13 +151,28 @@ fn plain_step_answers_what_the_library_does() {
     let limits = [0, 75, 200, 500, 700, 1000, 5000, 10_000, 1 << 31];
     let times = limits.into_iter().flat_map(|limit: u32| [999u32.wrapping_add(limit), 1000u32.wrapping_add(limit)]);
     let times: Vec<u32> = times.collect();
+    let events: Vec<(u8, i32)> =
+        (0..11).flat_map(|event| [-11, -1, 0, 1, 3, 12, 13, 17, 23, 24].map(|value| (event, value))).collect();
     for session in sessions() {
-        for (event, value) in (0..11).flat_map(|event| [-11, -1, 0, 1, 3, 12, 13, 17, 23, 24].map(|value| (event, value))) {
-            for &now in &times {
-                // SAFETY: takes and answers numbers.
-                let ours = unsafe { c::tailsprig_step(session, event, value, now) };
-                assert_eq!(plain::step(session, event, value, now), ours, "{session:?} {event} {value} {now}");
-            }
+        // Whether a session is in its ranges shows at any event.
+        let in_range = plain::step(session, 9, 0, 1000).code != -10;
+        let (events, times) = if in_range { (&events[..], &times[..]) } else { (&[(9, 0)][..], &[1000][..]) };
+        for (&(event, value), &now) in events.iter().flat_map(|event| times.iter().map(move |now| (event, now))) {
+            // SAFETY: takes and answers numbers.
+            let ours = unsafe { c::tailsprig_step(session, event, value, now) };
+            assert_eq!(plain::step(session, event, value, now), ours, "{session:?} {event} {value} {now}");
+        }
+    }
+}
+
+#[test]
+fn plain_draw_gives_what_the_library_does() {
+    for session in sessions() {
+        for room in [0, 1, 89, 400] {
+            let (mut plainly, mut out) = (vec![9; room], vec![9; room]);
+            // SAFETY: the session goes by value; the slice is lent for the call alone, with its length.
+            let ours = unsafe { c::tailsprig_draw(session, out.as_mut_ptr(), out.len()) };
+            assert_eq!((plain::draw(session, &mut plainly), plainly), (ours, out), "{session:?} {room}");
         }
     }
 }
