@@ -8,7 +8,7 @@
  *     Menus                           what a menu says
  *     Makers' own fields              what a maker put into a CM, and its blocks
  *     Records, the choice             what an end can do and the menus that say it, what both ends go on with
- *     Sessions                        states and their limits, events, what a host does in each state and at the end
+ *     Sessions                        states, limits, events, CI, what a host does in each state and at the end
  *
  * A host keeps three things for each line: a record of what its end can do (struct tailsprig_record), what it has heard
  * (struct tailsprig_listener) and the session (struct tailsprig_session). The last two are made anew at the start of
@@ -45,6 +45,13 @@ extern "C" {
  * another second one, have to be built anew; a shared library of another such number is not found when they start.
  * With another second number a call may answer otherwise than before; what a host then has to change:
  *
+ *   0.5.0  In CALLING the library gives out the bits to send, CI on and off ('CI' in Sessions). A host asks for them by
+ *          tailsprig_draw, 300 a second, and is silent where TAILSPRIG_SILENCE comes; one that never asks stays in
+ *          CALLING, whatever tone comes, but for sigA. So both starts of a caller take the call function, how many CI
+ *          are on and how many bit times off, and can refuse them: with 10, and with 16, which is new.
+ *          tailsprig_start_caller_default answers a struct tailsprig_caller_start, as the other one does. A session
+ *          has 20 bytes. Code 0 of a step no longer says that nothing changed: keep the session that comes back with
+ *          it. Te counts from the entry of QUIET: a host no longer holds ANSam back until a CI has ended.
  *   0.4.0  A JM without a mode in common has as many modulation octets as the heard CM, and no longer three: 1 to 64
  *          octets in all. Lend tailsprig_jm TAILSPRIG_MENU_MOST of them, since a buffer of 7 may be refused with 6.
  *          One that would have more is refused with 4; a host then hands over no event ('No JM' in Sessions). Nothing
@@ -56,9 +63,9 @@ extern "C" {
  *          that long, as textphones, calls tailsprig_start_caller with TAILSPRIG_TE_TEXTPHONE in its place. A host
  *          that gives Te has nothing to change.
  */
-#define TAILSPRIG_VERSION "0.4.0"
+#define TAILSPRIG_VERSION "0.5.0"
 #define TAILSPRIG_VERSION_MAJOR 0
-#define TAILSPRIG_VERSION_MINOR 4
+#define TAILSPRIG_VERSION_MINOR 5
 #define TAILSPRIG_VERSION_PATCH 0
 
 /* ---- Numbers with names ---- */
@@ -76,13 +83,15 @@ enum tailsprig_refusal {
     TAILSPRIG_AFTER_OVER = 7,       /* an event after the session was over */
     TAILSPRIG_CLOCK = 8,            /* the clock ran backwards, or half its range has passed */
     TAILSPRIG_WRONG_EVENT = 9,      /* an event of the other end, or a value outside its range */
-    TAILSPRIG_BAD_RECORD = 10,      /* a record, a session, Te or a kind outside its range */
+    TAILSPRIG_BAD_RECORD = 10,      /* a record, a session, Te or a kind outside its range; at a caller's start also a
+                                       function that is none */
     TAILSPRIG_NOT_OFFERED = 11,     /* the choice was not offered */
     TAILSPRIG_WRONG_CATEGORY = 12,  /* in writing: tag 0, or another category in CI */
     TAILSPRIG_CUT_SHORT = 13,       /* a sequence cut short */
     TAILSPRIG_BAD_BLOCK = 14,       /* a block longer than what remains, or a code that does not fit in it */
-    TAILSPRIG_BAD_PACKING = 15      /* a field with more than four bits left over, or with leftover bits or options
+    TAILSPRIG_BAD_PACKING = 15,     /* a field with more than four bits left over, or with leftover bits or options
                                        that are not 0 */
+    TAILSPRIG_BAD_CADENCE = 16      /* a caller's start with on or off periods that V.8 does not allow */
 };
 
 /* Kinds of messages. */
@@ -525,7 +534,8 @@ int32_t tailsprig_choice(const uint8_t *cm, size_t cm_len, const uint8_t *jm, si
  * State             sends                 is ended by                                       at the latest, by a tick
  *
  * 1 CALLER_STILL    nothing                                                                 1,000 ms: CALLING
- * 2 CALLING         CI, CT, CNG or none   ANSam: QUIET. ANS, sigA: OVER, left               no limit
+ * 2 CALLING         CI, on and off        ANSam: QUIET. ANS: OVER, left; each once the      no limit
+ *                                         last CI is sent. sigA: OVER, left
  * 3 QUIET           nothing                                                                 Te: MENU
  * 4 MENU            CM, over and over     agreed JM: CLOSING; with -11: OVER, not offered   10,000 ms: OVER, late
  * 5 CLOSING         CJ, once              CJ sent: PAUSE; choice none: OVER, cleared        no limit
@@ -537,19 +547,30 @@ int32_t tailsprig_choice(const uint8_t *cm, size_t cm_len, const uint8_t *jm, si
  *                                         sigC of the chosen item: PAUSE
  * 10 OVER           what comes next       every event is refused with 7
  *
- * Any other event of this end changes nothing and is answered 0. What a host has to know of it:
+ * Any other event of this end changes no state and is answered 0; the session that comes back is kept all the same,
+ * since ANSam or ANS may be noted in it. What a host has to know of it:
  *
  *   No limit.  CALLING lasts until someone answers, and CLOSING until the host says that CJ is sent. A host that gives
  *     up waiting there needs a timer of its own; it then drops the session.
  *   Ticks.  Time is looked at on a tick alone. V.8 asks for a pause of 75 ms within 5 (8.1.2, 8.2.2, 8.2.3), so in
  *     PAUSE ticks are 5 ms apart or less. Elsewhere a tick that comes late makes the state that much longer.
+ *   CI.  A cadence (7.1): an on period of 3 to 20 CI of 30 bits each, an off period of 120 to 600 bit times of silence,
+ *     over and over until someone answers. The host draws the bits as its modulator takes them, 300 a second
+ *     (tailsprig_draw), and sends each; for TAILSPRIG_SILENCE the carrier is off for a bit time. A bit that is drawn
+ *     counts as sent, so a host draws few ahead.
+ *     At ANSam or ANS the CI being sent is finished, and the third of the call where fewer were sent: at most 90 bits
+ *     come yet, which take 300 ms, and then none. Where none is left the event itself leads on: between two CI and in
+ *     an off period, behind the third CI. Otherwise it is answered 0 and noted in the session; the host draws what is
+ *     left, and the first tick behind the last of these bits leads on.
+ *     A host that sends CT, CNG or nothing in place of CI draws 90 bits on entering CALLING and drops them: then none
+ *     is left, and a tone leads on at once. One that draws none stays in CALLING, but for sigA.
  *   Te.  How long the caller is quiet: 500 ms at least, and 1,000 or more where echo cancellers have to be disabled
  *     (8.1.1). Without a value it is 1,000, since trunks have them. Textphone callers cannot wait that long: they give
- *     TAILSPRIG_TE_TEXTPHONE. It counts from the event ANSam; a host that lets a CI end first hands that event over
- *     when it has. A Te near 5,000 outlasts the answerer's ANSam, in which two copies of CM have to be heard as well:
- *     the answerer has left by then.
+ *     TAILSPRIG_TE_TEXTPHONE. It counts from the entry of QUIET, so from the end of the last CI. A Te near 5,000
+ *     outlasts the answerer's ANSam, in which two copies of CM have to be heard as well: the answerer has left by then.
  *   Tones.  A line card tells a tone for as long as it hears it, at every tick say, and not only when it begins: ANSam
- *     that is told once, while the caller is in CALLER_STILL, is answered 0 and lost.
+ *     that is told once, while the caller is in CALLER_STILL, is answered 0 and lost. In CALLING the first of ANSam and
+ *     ANS decides; what is told of either while the last CI is sent changes nothing.
  *   Menus.  They are sent until the state changes and never a count of copies: other ends may need more than two.
  *   Reports.  Where a menu is agreed in MENU or ANSWERING, the host asks tailsprig_choice, at the answerer behind
  *     tailsprig_jm, and hands over what it answers. CJ that the answerer hears is handed over as it is. All else that
@@ -566,7 +587,8 @@ int32_t tailsprig_choice(const uint8_t *cm, size_t cm_len, const uint8_t *jm, si
  *     then JOINT ends late, unless the host goes by something else, as that no CM has come for long enough (8.2.3).
  *     That takes a timer of the host; when it runs out the host hands over CJ.
  *   ANS.  An answerer without V.8. The caller is over, left.
- *   sigA.  An answering modem's own signal. The caller is over, left, whatever modulation it stands for.
+ *   sigA.  An answering modem's own signal. The caller is over, left, whatever modulation it stands for; at once, so
+ *     that no CI is finished.
  *   sigC.  A calling modem's own signal, with the item that it stands for. In ANSWERING each leads to PAUSE and to
  *     left; in JOINT the one of the chosen item means what CJ means, and others are answered 0.
  *   OVER, left.  V.8 does not decide what comes next. After ANS: as Annex A of V.32 bis, T.30 or another recommendation
@@ -581,7 +603,8 @@ int32_t tailsprig_choice(const uint8_t *cm, size_t cm_len, const uint8_t *jm, si
  *     events are still under way when a session ends.
  *
  * The numbers of a session are the library's: a host copies and stores them, and changes none. A session with a number
- * outside its range is refused with 10 and keeps its value; the starts and every step give sessions within the ranges.
+ * outside its range is refused with 10 and keeps its value; the starts, every step and every draw give sessions within
+ * the ranges.
  */
 enum tailsprig_end { TAILSPRIG_CALLER = 1, TAILSPRIG_ANSWERER = 2 };
 
@@ -607,11 +630,22 @@ enum tailsprig_ended {
     TAILSPRIG_ENDED_GO_ON = 5 /* with what was chosen */
 };
 
+/* What a caller's session holds of its CI. All six are 0 for the answerer. */
+struct tailsprig_cadence {
+    uint16_t off;     /* how many bit times are silent behind an on period: 120 to 600 */
+    uint16_t place;   /* where in an on period and the off period behind it the next bit is: less than 30 * on + off */
+    uint8_t on;       /* how many CI an on period has: 3 to 20 */
+    uint8_t function; /* tailsprig_function: what each CI names */
+    uint8_t sent;     /* how many bits were drawn, silence too, counted up to 90; equals place until then. 0 to 90 */
+    uint8_t tone;     /* TAILSPRIG_EVENT_ANSAM or _ANS, where it came with bits left to send; else 0 */
+};
+
 struct tailsprig_session {
-    uint32_t entry; /* the time of the start or of the last change of state. Any number */
-    uint32_t te;    /* how long the caller is quiet: 500 to 5,000; 0 for the answerer */
-    uint8_t end;    /* tailsprig_end */
-    uint8_t state;  /* tailsprig_state: of this end */
+    uint32_t entry;                   /* the time of the start or of the last change of state. Any number */
+    uint32_t te;                      /* how long the caller is quiet: 500 to 5,000; 0 for the answerer */
+    struct tailsprig_cadence cadence; /* as at the start before CALLING, and behind it as CALLING left it */
+    uint8_t end;                      /* tailsprig_end */
+    uint8_t state;                    /* tailsprig_state: of this end */
     uint8_t chosen; /* as tailsprig_choice answers it: 0, 1 to 12, 17 to 23; 0 before a menu is agreed */
     uint8_t ended;  /* tailsprig_ended: 0 exactly while the state is not TAILSPRIG_STATE_OVER; 5 only with a choice */
 };
@@ -624,11 +658,20 @@ struct tailsprig_caller_start {
 /* Te of textphone callers (TAILSPRIG_FUNCTION_TEXTPHONE), for tailsprig_start_caller: the shortest that there is. */
 #define TAILSPRIG_TE_TEXTPHONE 500
 
-/* A caller's session from this time on. Refusal 10: te is not 500 to 5,000. */
-struct tailsprig_caller_start tailsprig_start_caller(uint32_t start, uint32_t te);
+/*
+ * A caller's session from this time on, with the function that its CI name (enum tailsprig_function), how many CI are
+ * on and how many bit times off. With 5 and 450 CI is on for half a second and off for one and a half.
+ *
+ * Refusals, in this order:
+ *   10  te is not 500 to 5,000, or function is not 1 to 6
+ *   16  on is not 3 to 20, or off is not 120 to 600
+ */
+struct tailsprig_caller_start tailsprig_start_caller(uint32_t start, uint32_t te, uint8_t function, uint8_t on,
+                                                     uint16_t off);
 
 /* The same without a value for Te, which then is 1,000. Not for textphone callers. */
-struct tailsprig_session tailsprig_start_caller_default(uint32_t start);
+struct tailsprig_caller_start tailsprig_start_caller_default(uint32_t start, uint8_t function, uint8_t on,
+                                                             uint16_t off);
 
 /* An answerer's session from this time on. */
 struct tailsprig_session tailsprig_start_answerer(uint32_t start);
@@ -653,13 +696,13 @@ enum tailsprig_event {
 #define TAILSPRIG_GO_ON 32
 
 struct tailsprig_step_taken {
-    struct tailsprig_session session; /* behind the event; on a refusal as it was */
+    struct tailsprig_session session; /* behind the event, to be kept with code 0 too; on a refusal as it was */
     int32_t code;
 };
 
 /*
  * Takes an event of this end, what it carries (not looked at where it carries nothing), and its time. The code is
- *    0          nothing changed
+ *    0          the state did not change; ANSam or ANS may have been noted in the session
  *    1 to 9     the state entered
  *   17 to 20    over: TAILSPRIG_ENDED + left, late, cleared or not offered
  *   33 to 55    over: TAILSPRIG_GO_ON + the choice, as tailsprig_choice answers it
@@ -674,6 +717,24 @@ struct tailsprig_step_taken {
  */
 struct tailsprig_step_taken tailsprig_step(struct tailsprig_session session, uint8_t event, int32_t value,
                                            uint32_t now);
+
+/* What is drawn for a bit time of silence: the carrier is off. It is no bit, and no listener hears it. */
+#define TAILSPRIG_SILENCE 2
+
+struct tailsprig_drawn {
+    struct tailsprig_session session; /* behind the bits; on a refusal as it was */
+    size_t bits;                      /* how many bit times were written to the front of `out`; 0 beside a refusal */
+    int32_t code;                     /* 0, or a refusal n as -n */
+};
+
+/*
+ * Draws what a caller sends next in CALLING, a byte for each bit time: 0, 1 or TAILSPRIG_SILENCE. As many as `out` has
+ * room for; behind ANSam or ANS no more than are left to send ('CI' above). In every other state and at an answerer
+ * none, and nothing changes. Later bytes of out keep their values. How the bits are cut into calls makes no difference.
+ *
+ * Refusal 10: a number of the session is outside its range.
+ */
+struct tailsprig_drawn tailsprig_draw(struct tailsprig_session session, uint8_t *out, size_t out_len);
 
 #ifdef __cplusplus
 }

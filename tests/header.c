@@ -77,21 +77,35 @@ FIELD(tailsprig_record, access, 26, 1);
 FIELD(tailsprig_record, cellular, 27, 1);
 FIELD(tailsprig_record, digital, 28, 1);
 
-STRUCT(tailsprig_session, 12);
+STRUCT(tailsprig_cadence, 8);
+FIELD(tailsprig_cadence, off, 0, 2);
+FIELD(tailsprig_cadence, place, 2, 2);
+FIELD(tailsprig_cadence, on, 4, 1);
+FIELD(tailsprig_cadence, function, 5, 1);
+FIELD(tailsprig_cadence, sent, 6, 1);
+FIELD(tailsprig_cadence, tone, 7, 1);
+
+STRUCT(tailsprig_session, 20);
 FIELD(tailsprig_session, entry, 0, 4);
 FIELD(tailsprig_session, te, 4, 4);
-FIELD(tailsprig_session, end, 8, 1);
-FIELD(tailsprig_session, state, 9, 1);
-FIELD(tailsprig_session, chosen, 10, 1);
-FIELD(tailsprig_session, ended, 11, 1);
+FIELD(tailsprig_session, cadence, 8, 8);
+FIELD(tailsprig_session, end, 16, 1);
+FIELD(tailsprig_session, state, 17, 1);
+FIELD(tailsprig_session, chosen, 18, 1);
+FIELD(tailsprig_session, ended, 19, 1);
 
-STRUCT(tailsprig_caller_start, 16);
-FIELD(tailsprig_caller_start, session, 0, 12);
-FIELD(tailsprig_caller_start, code, 12, 4);
+STRUCT(tailsprig_caller_start, 24);
+FIELD(tailsprig_caller_start, session, 0, 20);
+FIELD(tailsprig_caller_start, code, 20, 4);
 
-STRUCT(tailsprig_step_taken, 16);
-FIELD(tailsprig_step_taken, session, 0, 12);
-FIELD(tailsprig_step_taken, code, 12, 4);
+STRUCT(tailsprig_step_taken, 24);
+FIELD(tailsprig_step_taken, session, 0, 20);
+FIELD(tailsprig_step_taken, code, 20, 4);
+
+STRUCT(tailsprig_drawn, 40);
+FIELD(tailsprig_drawn, session, 0, 20);
+FIELD(tailsprig_drawn, bits, 24, 8);
+FIELD(tailsprig_drawn, code, 32, 4);
 
 NUMBER(TAILSPRIG_NOT_A_BIT, 1);
 NUMBER(TAILSPRIG_STOP_BIT_ZERO, 2);
@@ -108,6 +122,7 @@ NUMBER(TAILSPRIG_WRONG_CATEGORY, 12);
 NUMBER(TAILSPRIG_CUT_SHORT, 13);
 NUMBER(TAILSPRIG_BAD_BLOCK, 14);
 NUMBER(TAILSPRIG_BAD_PACKING, 15);
+NUMBER(TAILSPRIG_BAD_CADENCE, 16);
 
 NUMBER(TAILSPRIG_CI, 1);
 NUMBER(TAILSPRIG_MENU, 2);
@@ -215,12 +230,13 @@ NUMBER(TAILSPRIG_EVENT_CJ, 8);
 NUMBER(TAILSPRIG_EVENT_TICK, 9);
 
 NUMBER(TAILSPRIG_TE_TEXTPHONE, 500);
+NUMBER(TAILSPRIG_SILENCE, 2);
 
 NUMBER(TAILSPRIG_ENDED, 16);
 NUMBER(TAILSPRIG_GO_ON, 32);
 
 NUMBER(TAILSPRIG_VERSION_MAJOR, 0);
-NUMBER(TAILSPRIG_VERSION_MINOR, 4);
+NUMBER(TAILSPRIG_VERSION_MINOR, 5);
 NUMBER(TAILSPRIG_VERSION_PATCH, 0);
 
 #endif
@@ -773,10 +789,21 @@ static bool lasts(struct tailsprig_session session)
     return after(&session, TAILSPRIG_EVENT_TICK, 0, 0x7FFFFFFF) == 0;
 }
 
-/* A caller that hears ANSam as soon as it calls is quiet for so long. */
+/* Draws so many bits, at most 700, and answers how many come. */
+static size_t draw(struct tailsprig_session *session, size_t count)
+{
+    uint8_t out[700];
+    struct tailsprig_drawn drawn = tailsprig_draw(*session, out, count);
+
+    CHECK(drawn.code == 0);
+    *session = drawn.session;
+    return drawn.bits;
+}
+
+/* A caller that hears ANSam once it has sent three CI is quiet for so long. */
 static bool quiet_lasts(struct tailsprig_session session, uint32_t te)
 {
-    return ends_at(&session, 1000, TAILSPRIG_STATE_CALLING)
+    return ends_at(&session, 1000, TAILSPRIG_STATE_CALLING) && draw(&session, 90) == 90
         && after(&session, TAILSPRIG_EVENT_ANSAM, 0, 0) == TAILSPRIG_STATE_QUIET
         && ends_at(&session, te, TAILSPRIG_STATE_MENU);
 }
@@ -796,30 +823,124 @@ static bool pauses_in_time(struct tailsprig_session session)
     return true;
 }
 
-static void the_caller(void)
+static void the_starts(void)
 {
-    struct tailsprig_caller_start started = tailsprig_start_caller(5, 700);
-    struct tailsprig_session session = started.session, other;
+    struct tailsprig_caller_start started = tailsprig_start_caller(5, 700, TAILSPRIG_FUNCTION_FAX_SENT, 3, 120);
+    struct tailsprig_session session = started.session;
 
     CHECK(started.code == 0 && session.entry == 5 && session.te == 700 && session.end == TAILSPRIG_CALLER);
     CHECK(session.state == TAILSPRIG_STATE_CALLER_STILL && session.chosen == 0 && session.ended == TAILSPRIG_ENDED_GOING);
-    CHECK(tailsprig_start_caller(5, 500).code == 0 && tailsprig_start_caller(5, 5000).code == 0);
-    started = tailsprig_start_caller(5, 499);
+    CHECK(session.cadence.on == 3 && session.cadence.off == 120 && session.cadence.function == TAILSPRIG_FUNCTION_FAX_SENT);
+    CHECK(session.cadence.place == 0 && session.cadence.sent == 0 && session.cadence.tone == 0);
+    CHECK(tailsprig_start_caller(5, 500, 1, 20, 600).code == 0 && tailsprig_start_caller(5, 5000, 6, 3, 600).code == 0);
+    started = tailsprig_start_caller(5, 499, 6, 3, 120);
     CHECK(started.code == -TAILSPRIG_BAD_RECORD && started.session.entry == 0 && started.session.end == 0);
-    CHECK(tailsprig_start_caller(5, 5001).code == -TAILSPRIG_BAD_RECORD);
+    CHECK(tailsprig_start_caller(5, 5001, 6, 3, 120).code == -TAILSPRIG_BAD_RECORD);
+
+    /* 10 for the function as well, and 16 for what is on and off, behind it. */
+    CHECK(tailsprig_start_caller(5, 700, 0, 3, 120).code == -TAILSPRIG_BAD_RECORD);
+    CHECK(tailsprig_start_caller_default(5, 7, 2, 119).code == -TAILSPRIG_BAD_RECORD);
+    CHECK(tailsprig_start_caller(5, 499, 6, 2, 119).code == -TAILSPRIG_BAD_RECORD);
+    CHECK(tailsprig_start_caller(5, 700, 6, 2, 120).code == -TAILSPRIG_BAD_CADENCE);
+    CHECK(tailsprig_start_caller(5, 700, 6, 21, 120).code == -TAILSPRIG_BAD_CADENCE);
+    CHECK(tailsprig_start_caller_default(5, 6, 3, 119).code == -TAILSPRIG_BAD_CADENCE);
+    started = tailsprig_start_caller_default(5, 6, 3, 601);
+    CHECK(started.code == -TAILSPRIG_BAD_CADENCE && started.session.cadence.on == 0 && started.session.end == 0);
 
     /* Without a value quiet lasts 1,000 ms, and with that of textphones half of it. */
-    other = tailsprig_start_caller_default(9);
-    CHECK(other.entry == 9 && other.te == 1000 && other.end == TAILSPRIG_CALLER && quiet_lasts(other, 1000));
-    started = tailsprig_start_caller(9, TAILSPRIG_TE_TEXTPHONE);
+    started = tailsprig_start_caller_default(9, 6, 5, 450);
+    session = started.session;
+    CHECK(started.code == 0 && session.entry == 9 && session.te == 1000 && session.end == TAILSPRIG_CALLER);
+    CHECK(session.cadence.on == 5 && session.cadence.off == 450 && session.cadence.function == 6 && quiet_lasts(session, 1000));
+    started = tailsprig_start_caller(9, TAILSPRIG_TE_TEXTPHONE, TAILSPRIG_FUNCTION_TEXTPHONE, 3, 120);
     CHECK(started.code == 0 && quiet_lasts(started.session, 500));
 
     /* With a Te of 5,000 CM starts no sooner than ANSam ends, even where the caller hears ANSam at once. */
-    CHECK(quiet_lasts(tailsprig_start_caller(0, 5000).session, 5000));
+    CHECK(quiet_lasts(tailsprig_start_caller(0, 5000, 6, 3, 120).session, 5000));
+}
+
+/* A caller that is calling, for data, with five CI on and 450 bit times off. */
+static struct tailsprig_session calling(void)
+{
+    struct tailsprig_session session = tailsprig_start_caller(0, 700, TAILSPRIG_FUNCTION_DATA, 5, 450).session;
+
+    CHECK(draw(&session, 30) == 0 && session.cadence.sent == 0);
+    CHECK(ends_at(&session, 1000, TAILSPRIG_STATE_CALLING));
+    return session;
+}
+
+static void ci(void)
+{
+    struct tailsprig_session session = calling(), other;
+    struct tailsprig_drawn drawn;
+    uint8_t ci[30], out[700], one[1];
+    size_t at;
+
+    /* A period is five CI and the silence behind them, half a second and one and a half; the next begins like it. */
+    CHECK(bits_of(ci, CI_BITS) == sizeof ci);
+    memset(out, 9, sizeof out);
+    drawn = tailsprig_draw(session, out, 699);
+    CHECK(drawn.code == 0 && drawn.bits == 699 && out[699] == 9);
+    for (at = 0; at < 699; at++)
+        CHECK(out[at] == (at % 600 < 150 ? ci[at % 30] : TAILSPRIG_SILENCE));
+    CHECK(drawn.session.cadence.place == 99 && drawn.session.cadence.sent == 90 && drawn.session.cadence.tone == 0);
+    CHECK(drawn.session.entry == session.entry && drawn.session.state == TAILSPRIG_STATE_CALLING && lasts(drawn.session));
+
+    /* In any cut they are the same, and counted. */
+    for (at = 0; at < 200; at++) {
+        drawn = tailsprig_draw(session, one, 1);
+        session = drawn.session;
+        CHECK(drawn.bits == 1 && one[0] == out[at] && session.cadence.place == at + 1);
+        CHECK(session.cadence.sent == (at < 90 ? at + 1 : 90));
+    }
+    CHECK(draw(&session, 0) == 0 && session.cadence.place == 200);
+
+    /* Nothing is left in an off period, and none between two CI, behind the third: tones lead on at once. */
+    other = session;
+    CHECK(after(&other, TAILSPRIG_EVENT_ANSAM, 0, 1) == TAILSPRIG_STATE_QUIET && other.cadence.place == 200);
+    other = calling();
+    CHECK(draw(&other, 120) == 120 && after(&other, TAILSPRIG_EVENT_ANS, 0, 1) == TAILSPRIG_ENDED + TAILSPRIG_ENDED_LEFT);
+    other = calling();
+    CHECK(draw(&other, 90) == 90 && after(&other, TAILSPRIG_EVENT_ANSAM, 0, 1) == TAILSPRIG_STATE_QUIET);
+
+    /* Before the first bit all three are left: 90 bits, and no tone or tick leads on before. The entry time is the tick's. */
+    session = calling();
+    CHECK(after(&session, TAILSPRIG_EVENT_ANSAM, 0, 1) == 0 && session.cadence.tone == TAILSPRIG_EVENT_ANSAM);
+    CHECK(after(&session, TAILSPRIG_EVENT_ANS, 0, 2) == 0 && lasts(session));
+    CHECK(draw(&session, 89) == 89 && lasts(session));
+    CHECK(draw(&session, 700) == 1 && draw(&session, 700) == 0 && session.state == TAILSPRIG_STATE_CALLING);
+    CHECK(after(&session, TAILSPRIG_EVENT_ANS, 0, 300) == 0 && after(&session, TAILSPRIG_EVENT_ANSAM, 0, 300) == 0);
+    CHECK(after(&session, TAILSPRIG_EVENT_TICK, 0, 310) == TAILSPRIG_STATE_QUIET && session.entry == 1310);
+    CHECK(draw(&session, 30) == 0 && ends_at(&session, 700, TAILSPRIG_STATE_MENU));
+
+    /* Within a CI behind the third its rest is left; ANS leaves then, sigA at once. */
+    session = calling();
+    CHECK(draw(&session, 121) == 121 && after(&session, TAILSPRIG_EVENT_ANS, 0, 1) == 0);
+    CHECK(session.cadence.tone == TAILSPRIG_EVENT_ANS);
+    other = session;
+    CHECK(after(&other, TAILSPRIG_EVENT_SIG_A, 0, 2) == TAILSPRIG_ENDED + TAILSPRIG_ENDED_LEFT);
+    CHECK(draw(&session, 30) == 29);
+    CHECK(after(&session, TAILSPRIG_EVENT_TICK, 0, 100) == TAILSPRIG_ENDED + TAILSPRIG_ENDED_LEFT);
+
+    /* An answerer has none, and a session outside its range is refused. */
+    other = tailsprig_start_answerer(0);
+    CHECK(draw(&other, 30) == 0 && other.cadence.on == 0);
+    session = calling();
+    session.cadence.place = 1;
+    memset(out, 9, sizeof out);
+    drawn = tailsprig_draw(session, out, sizeof out);
+    CHECK(drawn.code == -TAILSPRIG_BAD_RECORD && drawn.bits == 0 && out[0] == 9);
+    CHECK(memcmp(&drawn.session, &session, sizeof session) == 0);
+}
+
+static void the_caller(void)
+{
+    struct tailsprig_session session = tailsprig_start_caller(5, 700, 6, 3, 120).session, other;
 
     /* A tone that is told once, too early, is lost. */
     CHECK(after(&session, TAILSPRIG_EVENT_ANSAM, 0, 999) == 0);
     CHECK(ends_at(&session, 1000, TAILSPRIG_STATE_CALLING) && session.entry == 1005 && lasts(session));
+    CHECK(draw(&session, 90) == 90 && lasts(session));
     other = session;
     CHECK(after(&other, TAILSPRIG_EVENT_ANS, 0, 1) == TAILSPRIG_ENDED + TAILSPRIG_ENDED_LEFT);
     other = session;
@@ -890,7 +1011,7 @@ static void the_answerer(void)
 
 static void refused_events(void)
 {
-    struct tailsprig_session session = tailsprig_start_caller_default(1000), kept = session;
+    struct tailsprig_session session = tailsprig_start_caller_default(1000, 6, 3, 120).session, kept = session;
 
     CHECK(after(&session, TAILSPRIG_EVENT_CJ, 0, 1) == -TAILSPRIG_WRONG_EVENT);
     CHECK(after(&session, 10, 0, 1) == -TAILSPRIG_WRONG_EVENT && after(&session, 0, 0, 1) == -TAILSPRIG_WRONG_EVENT);
@@ -927,6 +1048,8 @@ int main(void)
     counts();
     own_fields();
     choice();
+    the_starts();
+    ci();
     the_caller();
     the_answerer();
     refused_events();

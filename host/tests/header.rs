@@ -120,7 +120,7 @@ fn structs_of_the_header() -> Structs {
 #[test]
 fn the_structs_are_those_of_the_sources() {
     let declared = declared();
-    assert_eq!(declared.len(), 14, "{:?}", declared.keys());
+    assert_eq!(declared.len(), 16, "{:?}", declared.keys());
     assert_eq!(structs_of_the_header(), declared, "include/tailsprig.h");
     assert_eq!(structs_of(&read("host/src/lib.rs")), declared, "host/src/lib.rs");
 }
@@ -230,7 +230,7 @@ fn as_c_passes((name, ty): &Named) -> Vec<Named> {
 fn the_functions_are_those_of_the_sources() {
     let header = functions_of_the_header();
     let declared = functions_of(&source("tailsprig"));
-    assert_eq!(declared.len(), 20, "{:?}", declared.keys());
+    assert_eq!(declared.len(), 21, "{:?}", declared.keys());
     assert_eq!(header, functions_of(read("host/src/lib.rs").split("extern \"C\"").nth(1).expect("declarations")));
     assert!(header.keys().eq(declared.keys()), "{:?}", header.keys());
     for (name, (parameters, answer)) in &declared {
@@ -330,6 +330,7 @@ fn the_numbers_are_those_of_the_sources() {
         ("sequences", "CJ_BITS", "CJ_BITS"),
         ("codes", "NOWHERE", "NOWHERE"),
         ("steps", "LEAST_TE", "TE_TEXTPHONE"),
+        ("cadence", "SILENCE", "SILENCE"),
     ] {
         assert_eq!(number(in_header), constant(krate, name), "{in_header}");
     }
@@ -352,9 +353,30 @@ fn te_in_the_manual_is_that_of_the_sources() {
     let manual = read("include/tailsprig.h");
     let [least, most, default] = ["LEAST_TE", "MOST_TE", "DEFAULT_TE"].map(|name| with_comma(constant("steps", name)));
     for said in [
-        format!("te is not {least} to {most}. */"),
+        format!("te is not {least} to {most}, or function"),
         format!("how long the caller is quiet: {least} to {most}; 0 for the answerer */"),
         format!("without a value for Te, which then is {default}. Not for textphone callers. */"),
+    ] {
+        assert!(manual.contains(&said), "{said}");
+    }
+}
+
+#[test]
+fn the_cadence_in_the_manual_is_that_of_the_sources() {
+    let manual = read("include/tailsprig.h");
+    let [function, last_function, on, most_on, off, most_off, sequence, third] =
+        ["FIRST_FUNCTION", "LAST_FUNCTION", "LEAST_ON", "MOST_ON", "LEAST_OFF", "MOST_OFF", "SEQUENCE", "THREE_SEQUENCES"]
+            .map(|name| constant("cadence", name));
+    for said in [
+        format!("or function is not {function} to {last_function}\n"),
+        format!("on is not {on} to {most_on}, or off is not {off} to {most_off}\n"),
+        format!("an on period of {on} to {most_on} CI of {sequence} bits each, an off period of {off} to {most_off} bit times"),
+        format!("behind an on period: {off} to {most_off} */"),
+        format!("how many CI an on period has: {on} to {most_on} */"),
+        format!("less than {sequence} * on + off */"),
+        format!("counted up to {third}; equals place until then. 0 to {third} */"),
+        format!("at most {third} bits\n"),
+        format!("draws {third} bits on entering CALLING"),
     ] {
         assert!(manual.contains(&said), "{said}");
     }
@@ -387,7 +409,10 @@ fn the_limits_in_the_manual_are_those_of_the_table() {
         let row = manual.lines().find(|line| line.starts_with(&format!(" * {number} {state} ")));
         let said = &row.unwrap_or_else(|| panic!("no row for {state}"))[limits..];
         let expected = match ticks_of(state).as_slice() {
-            [] => "no limit".to_string(),
+            // Calling: a tick leads on behind the last bit of CI, whenever that was drawn.
+            rows if rows.iter().all(|(least, condition, _)| *least == 0 && condition.starts_with("BEHIND_")) => {
+                "no limit".to_string()
+            }
             [(0, condition, next)] if condition == "TE_ELAPSED" => format!("Te: {next}"),
             [(least, condition, next)] if condition == "ALWAYS" => format!("{} ms: {next}", with_comma(*least)),
             rows => panic!("{state}: {rows:?}"),
@@ -404,7 +429,7 @@ fn the_refusals_are_those_of_the_sources() {
         .filter_map(|line| line.trim().strip_prefix("Refusal::")?.strip_suffix(',')?.split_once(" => "))
         .map(|(name, number)| (c_name(name).to_uppercase(), number.parse().expect("a number")))
         .collect();
-    assert_eq!(declared.len(), 15);
+    assert_eq!(declared.len(), 16);
     assert_eq!(numbers_of("tailsprig_refusal", &Numbers::new()), declared);
 }
 
