@@ -1,7 +1,7 @@
 /*
  * A line's loop: what a host does with bits, tones and time around the library. Two lines, a caller and an answerer, are joined here so
- * that the example runs by itself: each bit that one sends the other hears, some bit times later. It prints what each end enters and
- * exits with 0 where both go on with the same choice.
+ * that the example runs by itself: each bit that one sends the other hears, some bit times later. The caller sends CI on and off until
+ * the answerer is there. It prints what each end enters and exits with 0 where both go on with the same choice.
  *
  * The parts to take over are `line_start`, `line_step`, `line_hear` and `line_bit`; tones come from a line card, here from the other
  * line's state.
@@ -88,14 +88,14 @@ static void line_start(struct line *line, struct tailsprig_session session)
     line->sent = 0;
 }
 
-/* An event, with its time: the session that comes back is kept, refused or not. */
+/* An event, with its time: the session that comes back is kept whatever the code is. With 0 a tone may have been noted in it. */
 static void line_step(struct line *line, uint8_t event, int32_t value, uint32_t now)
 {
     struct tailsprig_step_taken taken = tailsprig_step(line->session, event, value, now);
 
     line->session = taken.session;
     if (taken.code < 0 || taken.code == 0)
-        return; /* a refusal, or nothing changed */
+        return; /* a refusal, or the state is the same */
     if (taken.code < TAILSPRIG_ENDED) {
         line_entered(line, taken.code, now);
         return;
@@ -126,9 +126,11 @@ static void line_agreed(struct line *line, uint32_t now)
     }
 }
 
-/* A bit from the line. */
+/* A bit from the line; without a carrier there is none. */
 static void line_hear(struct line *line, uint8_t bit, uint32_t now)
 {
+    if (bit == TAILSPRIG_SILENCE)
+        return;
     switch (tailsprig_hear(&line->heard, bit)) {
     case TAILSPRIG_HEARD_AGREED:
         line_agreed(line, now);
@@ -142,14 +144,26 @@ static void line_hear(struct line *line, uint8_t bit, uint32_t now)
     }
 }
 
-/* The next bit to the line; 1s where nothing is sent. A menu is sent until the state changes, CJ once. */
+/* The next bit of CI, or silence: in an off period, and behind the last bit that is left once ANSam is heard. */
+static uint8_t line_ci(struct line *line)
+{
+    uint8_t bit = TAILSPRIG_SILENCE;
+    struct tailsprig_drawn drawn = tailsprig_draw(line->session, &bit, 1);
+
+    line->session = drawn.session;
+    return bit;
+}
+
+/* The next bit to the line, or silence. CI is drawn as it is sent, a menu is sent until the state changes, CJ once. */
 static uint8_t line_bit(struct line *line, uint32_t now)
 {
     size_t end = end_of(line), at = place_of(line);
 
     line->sent = 0;
+    if (line->session.state == TAILSPRIG_STATE_CALLING)
+        return line_ci(line);
     if (end <= at)
-        return 1;
+        return TAILSPRIG_SILENCE;
 
     uint8_t bit = line->bits[at];
 
@@ -172,6 +186,9 @@ static struct tailsprig_record for_data(uint16_t items, uint8_t lapm)
     own.lapm = lapm;
     return own;
 }
+
+/* CI is on for half a second and off for one and a half; the answerer's telephone rings for a while first. */
+enum { CI_ON = 5, CI_OFF = 450, RINGS_MS = 3100 };
 
 /* One way of the line: a bit arrives so many bit times after it was sent. */
 enum { DELAY = 7 };
@@ -199,15 +216,16 @@ int main(void)
     struct way there = {.next = 0}, back = {.next = 0};
     const uint8_t no_blocks[1] = {0};
     int32_t made = tailsprig_cm(caller.own, TAILSPRIG_FUNCTION_DATA, no_blocks, 0, caller.menu, sizeof caller.menu);
+    struct tailsprig_caller_start started = tailsprig_start_caller_default(0, TAILSPRIG_FUNCTION_DATA, CI_ON, CI_OFF);
 
-    if (made < 0)
+    if (made < 0 || started.code < 0)
         return 1;
     caller.menu_len = (size_t)made;
     write_copy(&caller);
-    line_start(&caller, tailsprig_start_caller_default(0));
-    line_start(&answerer, tailsprig_start_answerer(0));
-    memset(there.bits, 1, sizeof there.bits);
-    memset(back.bits, 1, sizeof back.bits);
+    line_start(&caller, started.session);
+    line_start(&answerer, tailsprig_start_answerer(RINGS_MS)); /* ticks before that are refused, and do not count */
+    memset(there.bits, TAILSPRIG_SILENCE, sizeof there.bits);
+    memset(back.bits, TAILSPRIG_SILENCE, sizeof back.bits);
 
     /* 300 bits a second, and a tick with each; the caller's line card hears ANSam while the answerer sends it. */
     for (uint32_t n = 0; n < 30 * 300; n++) {
