@@ -2,14 +2,25 @@
 
 #include <string.h>
 
-enum { CI_COPIES = 4 };
+/* Half a second of CI and one and a half of silence: both are whole blocks of audio, and so is each CI. */
+enum { CI_ON = 5, CI_OFF = 450 };
 
-static void send_message(struct our_end *end, uint8_t kind, const uint8_t *octets, size_t len, uint16_t copies, bool again)
+static void send_menu(struct our_end *end)
 {
-    uint8_t bits[CI_COPIES * TAILSPRIG_MOST_BITS];
-    int32_t count = tailsprig_write(kind, octets, len, copies, bits, sizeof bits);
+    uint8_t bits[TAILSPRIG_MOST_BITS];
+    int32_t count = tailsprig_write(TAILSPRIG_MENU, end->sent.octets, end->sent.len, 1, bits, sizeof bits);
     if (count > 0)
-        v21_send(&end->sender, bits, (size_t)count, again);
+        v21_send(&end->sender, bits, (size_t)count, true);
+}
+
+/* The bits of CI that the next block of audio takes; none in an off period, and behind the last. */
+static void send_ci(struct our_end *end)
+{
+    uint8_t bits[BLOCK_BITS];
+    struct tailsprig_drawn drawn = tailsprig_draw(end->session, bits, sizeof bits);
+    end->session = drawn.session;
+    if (drawn.bits > 0 && bits[0] != TAILSPRIG_SILENCE)
+        v21_add(&end->sender, bits, drawn.bits);
 }
 
 static void send_cj(struct our_end *end)
@@ -22,12 +33,12 @@ static void send_cj(struct our_end *end)
 static void send_for_state(struct our_end *end)
 {
     switch (end->session.state) {
-    case TAILSPRIG_STATE_CALLING:
-        send_message(end, TAILSPRIG_CI, end->sent.octets, 1, CI_COPIES, false);
+    case TAILSPRIG_STATE_CALLING: /* CI goes out block by block */
+    case TAILSPRIG_STATE_QUIET:   /* the modem is a bit time late: the carrier goes off by itself behind the last CI */
         break;
     case TAILSPRIG_STATE_MENU:
     case TAILSPRIG_STATE_JOINT:
-        send_message(end, TAILSPRIG_MENU, end->sent.octets, end->sent.len, 1, true);
+        send_menu(end);
         break;
     case TAILSPRIG_STATE_CLOSING:
         send_cj(end);
@@ -102,7 +113,7 @@ void our_end_start(struct our_end *end, uint8_t which, struct tailsprig_record r
     bool caller = which == TAILSPRIG_CALLER;
     memset(end, 0, sizeof *end);
     end->listener = tailsprig_fresh();
-    end->session = caller ? tailsprig_start_caller_default(0) : tailsprig_start_answerer(0);
+    end->session = caller ? tailsprig_start_caller_default(0, function, CI_ON, CI_OFF).session : tailsprig_start_answerer(0);
     end->record = record;
     if (caller) {
         int32_t len = tailsprig_cm(record, function, blocks, blocks_len, end->sent.octets, sizeof end->sent.octets);
@@ -126,6 +137,8 @@ void our_end_free(struct our_end *end)
 void our_end_speak(struct our_end *end, int16_t audio[BLOCK_SAMPLES])
 {
     bool sent_before = end->sender.sending;
+    if (end->session.state == TAILSPRIG_STATE_CALLING)
+        send_ci(end);
     v21_speak(&end->sender, audio);
     if (end->session.state == TAILSPRIG_STATE_CLOSING && sent_before && !end->sender.sending)
         take(end, TAILSPRIG_EVENT_CJ_SENT, 0);

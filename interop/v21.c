@@ -35,9 +35,9 @@ static size_t keep_rest_of_octet(struct v21_sender *sender)
     return rest;
 }
 
-void v21_send(struct v21_sender *sender, const uint8_t *bits, size_t len, bool again)
+/* These bits behind so many that are kept at the front. */
+static void send_behind(struct v21_sender *sender, size_t rest, const uint8_t *bits, size_t len, bool again)
 {
-    size_t rest = sender->sending ? keep_rest_of_octet(sender) : 0;
     memcpy(sender->bits + rest, bits, len);
     sender->len = rest + len;
     sender->next = 0;
@@ -46,6 +46,18 @@ void v21_send(struct v21_sender *sender, const uint8_t *bits, size_t len, bool a
         fsk_tx_restart(sender->modem, sender->channel);
         sender->sending = true;
     }
+}
+
+void v21_send(struct v21_sender *sender, const uint8_t *bits, size_t len, bool again)
+{
+    send_behind(sender, sender->sending ? keep_rest_of_octet(sender) : 0, bits, len, again);
+}
+
+void v21_add(struct v21_sender *sender, const uint8_t *bits, size_t len)
+{
+    size_t rest = sender->sending ? sender->len - sender->next : 0;
+    memmove(sender->bits, sender->bits + sender->next, rest);
+    send_behind(sender, rest, bits, len, false);
 }
 
 void v21_stop(struct v21_sender *sender)
