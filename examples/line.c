@@ -188,7 +188,7 @@ static struct tailsprig_record for_data(uint16_t items, uint8_t lapm)
 }
 
 /* CI is on for half a second and off for one and a half; the answerer's telephone rings for a while first. */
-enum { CI_ON = 5, CI_OFF = 450, RINGS_MS = 3100 };
+enum { CI_ON = 5, CI_OFF = 450, RINGS_MS = 3120 };
 
 /* One way of the line: a bit arrives so many bit times after it was sent. */
 enum { DELAY = 7 };

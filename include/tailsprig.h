@@ -467,9 +467,10 @@ struct tailsprig_record {
  *   Who takes them.  spandsp 0.0.6 does not return from a CM with a group of tag 15 (measured; docs/INTEROP.md). Who
  *     calls stations of unknown make gives blocks only where the station is known to take them.
  *   How long they take.  A CM of n octets is agreed with bit 50 + 20 * n at the soonest: where n is 64 that is 4.4 s
- *     after it began. An answerer has left 5,000 ms after its ANSam began, and before CM the caller has to detect ANSam
- *     and to be quiet for Te. With a Te of 1,000 a CM of more than 57 octets is never agreed in time; with the tone
- *     detector of docs/INTEROP.md none of more than 37 was, which has 19 octets of blocks. So blocks are short.
+ *     after it began. An answerer has left 5,000 ms after its ANSam began, and before CM the caller has to detect
+ *     ANSam, to finish its CI and to be quiet for Te. With a Te of 1,000 a CM of more than 57 octets is never agreed in
+ *     time; with the tone detector of docs/INTEROP.md none of more than 37 was, which has 19 octets of blocks. So
+ *     blocks are short.
  */
 int32_t tailsprig_cm(struct tailsprig_record own, uint8_t function, const uint8_t *blocks, size_t blocks_len,
                      uint8_t *out, size_t out_len);
@@ -566,8 +567,9 @@ int32_t tailsprig_choice(const uint8_t *cm, size_t cm_len, const uint8_t *jm, si
  *     is left, and a tone leads on at once. One that draws none stays in CALLING, but for sigA.
  *   Te.  How long the caller is quiet: 500 ms at least, and 1,000 or more where echo cancellers have to be disabled
  *     (8.1.1). Without a value it is 1,000, since trunks have them. Textphone callers cannot wait that long: they give
- *     TAILSPRIG_TE_TEXTPHONE. It counts from the entry of QUIET, so from the end of the last CI. A Te near 5,000
- *     outlasts the answerer's ANSam, in which two copies of CM have to be heard as well: the answerer has left by then.
+ *     TAILSPRIG_TE_TEXTPHONE. It counts from the entry of QUIET: the tone, or the tick behind the last CI. A Te near
+ *     5,000 outlasts the answerer's ANSam, in which two copies of CM have to be heard as well: the answerer has left by
+ *     then.
  *   Tones.  A line card tells a tone for as long as it hears it, at every tick say, and not only when it begins: ANSam
  *     that is told once, while the caller is in CALLER_STILL, is answered 0 and lost. In CALLING the first of ANSam and
  *     ANS decides; what is told of either while the last CI is sent changes nothing.

@@ -46,19 +46,31 @@ static void play(struct their_end *theirs, struct our_end *ours, const uint8_t *
     v21_close(&line);
 }
 
-/* The function of a CI shows in what spandsp reports when no CM follows. */
+/* Our CI, on and off while nobody answers. Its function shows in what spandsp reports when no CM follows. */
 static int probe_ci(void)
 {
-    const uint8_t octet = FAX_SENT << 5 | 1;
-    uint8_t bits[4 * TAILSPRIG_MOST_BITS];
-    int32_t len = tailsprig_write(TAILSPRIG_CI, &octet, 1, 4, bits, sizeof bits);
+    const struct tailsprig_record fax = {.home = FAX_SENT, .functions[FAX_SENT - 1] = {.available = 1}};
     struct their_end theirs;
+    struct our_end ours, listener;
+    int16_t audio[BLOCK_SAMPLES];
+    int16_t answer_tone[BLOCK_SAMPLES];
     their_end_start(&theirs, false, false, DATA_ONLY);
-    play(&theirs, NULL, bits, (size_t)len, false, CALL_MS);
+    our_end_start(&ours, TAILSPRIG_CALLER, fax, FAX_SENT, NO_BLOCKS, 0);
+    our_end_start(&listener, TAILSPRIG_ANSWERER, fax, 0, NO_BLOCKS, 0);
+    while (ours.now < CALL_MS) {
+        our_end_speak(&ours, audio);
+        their_end_speak(&theirs, answer_tone);
+        their_end_hear(&theirs, audio);
+        our_end_hear(&listener, audio);
+        our_end_tick(&ours);
+    }
+    our_end_free(&ours);
+    our_end_free(&listener);
     their_end_free(&theirs);
-    printf("| our CI for '%s', four copies | it reports '%s' |\n", word_of_function(FAX_SENT),
-           word_of_function((unsigned int)theirs.last.call_function));
-    return theirs.last.call_function == FAX_SENT ? 0 : 1;
+    printf("| our CI for '%s', on and off, for %d s without an answer | it reports '%s'; our listener: %d CI heard |\n",
+           word_of_function(FAX_SENT), CALL_MS / 1000, word_of_function((unsigned int)theirs.last.call_function),
+           listener.ci_heard);
+    return theirs.last.call_function == FAX_SENT && listener.ci_heard > 0 ? 0 : 1;
 }
 
 /* Are so many copies enough? For our listener a menu ends with the ten 1s behind it, whatever they lead to. */
