@@ -1,6 +1,6 @@
 //! Steps in plain Rust, over the same table, and the bits of the cadence: what the benchmark measures the proved calls against.
 use crate::c::{Cadence, Drawn, Session, StepTaken};
-use crate::{plain::write, steps::SILENCE, Kind};
+use crate::steps::SILENCE;
 
 // The states, as the session holds them.
 const CALLER_STILL: u8 = 1;
@@ -235,14 +235,14 @@ pub fn draw(mut session: Session, out: &mut [u8]) -> Drawn {
     }
     let cadence = &mut session.cadence;
     let bits = if cadence.tone == 0 { out.len() } else { out.len().min(left(cadence).into()) };
-    let mut ci = [0; SEQUENCE as usize];
-    let _ = write(Kind::Ci, &[cadence.function << 5 | 1], 1, &mut ci);
+    // Its first bit lowest: ten 1s, a sync whose last bit is 1, and the call function octet between a 0 and a 1.
+    let ci = 0x3ff | 1 << 19 | u32::from(cadence.function << 5 | 1) << 21 | 1 << 29;
     let on = SEQUENCE * u16::from(cadence.on);
     let period = on + cadence.off;
     for byte in &mut out[..bits] {
-        *byte = if cadence.place < on { ci[usize::from(cadence.place % SEQUENCE)] } else { SILENCE };
+        *byte = if cadence.place < on { (ci >> (cadence.place % SEQUENCE) & 1) as u8 } else { SILENCE };
         cadence.place = if cadence.place + 1 == period { 0 } else { cadence.place + 1 };
     }
-    cadence.sent = bits.min(usize::from(THIRD - cadence.sent)) as u8 + cadence.sent;
+    cadence.sent += bits.min(usize::from(THIRD - cadence.sent)) as u8;
     Drawn { session, bits, code: 0 }
 }
