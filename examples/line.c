@@ -148,7 +148,7 @@ static void line_hear(struct line *line, uint8_t bit, uint32_t now)
 static uint8_t line_ci(struct line *line)
 {
     uint8_t bit = TAILSPRIG_SILENCE;
-    struct tailsprig_drawn drawn = tailsprig_draw(line->session, &bit, 1);
+    struct tailsprig_bits_drawn drawn = tailsprig_draw(line->session, &bit, 1);
 
     line->session = drawn.session;
     return bit;

@@ -723,7 +723,7 @@ struct tailsprig_step_taken tailsprig_step(struct tailsprig_session session, uin
 /* What is drawn for a bit time of silence: the carrier is off. It is no bit, and no listener hears it. */
 #define TAILSPRIG_SILENCE 2
 
-struct tailsprig_drawn {
+struct tailsprig_bits_drawn {
     struct tailsprig_session session; /* behind the bits; on a refusal as it was */
     size_t bits;                      /* how many bit times were written to the front of `out`; 0 beside a refusal */
     int32_t code;                     /* 0, or a refusal n as -n */
@@ -736,7 +736,7 @@ struct tailsprig_drawn {
  *
  * Refusal 10: a number of the session is outside its range.
  */
-struct tailsprig_drawn tailsprig_draw(struct tailsprig_session session, uint8_t *out, size_t out_len);
+struct tailsprig_bits_drawn tailsprig_draw(struct tailsprig_session session, uint8_t *out, size_t out_len);
 
 #ifdef __cplusplus
 }

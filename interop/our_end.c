@@ -17,7 +17,7 @@ static void send_menu(struct our_end *end)
 static void send_ci(struct our_end *end)
 {
     uint8_t bits[BLOCK_BITS];
-    struct tailsprig_drawn drawn = tailsprig_draw(end->session, bits, sizeof bits);
+    struct tailsprig_bits_drawn drawn = tailsprig_draw(end->session, bits, sizeof bits);
     end->session = drawn.session;
     if (drawn.bits > 0 && bits[0] != TAILSPRIG_SILENCE)
         v21_add(&end->sender, bits, drawn.bits);

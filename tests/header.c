@@ -102,10 +102,10 @@ STRUCT(tailsprig_step_taken, 24);
 FIELD(tailsprig_step_taken, session, 0, 20);
 FIELD(tailsprig_step_taken, code, 20, 4);
 
-STRUCT(tailsprig_drawn, 40);
-FIELD(tailsprig_drawn, session, 0, 20);
-FIELD(tailsprig_drawn, bits, 24, 8);
-FIELD(tailsprig_drawn, code, 32, 4);
+STRUCT(tailsprig_bits_drawn, 40);
+FIELD(tailsprig_bits_drawn, session, 0, 20);
+FIELD(tailsprig_bits_drawn, bits, 24, 8);
+FIELD(tailsprig_bits_drawn, code, 32, 4);
 
 NUMBER(TAILSPRIG_NOT_A_BIT, 1);
 NUMBER(TAILSPRIG_STOP_BIT_ZERO, 2);
@@ -793,7 +793,7 @@ static bool lasts(struct tailsprig_session session)
 static size_t draw(struct tailsprig_session *session, size_t count)
 {
     uint8_t out[700];
-    struct tailsprig_drawn drawn = tailsprig_draw(*session, out, count);
+    struct tailsprig_bits_drawn drawn = tailsprig_draw(*session, out, count);
 
     CHECK(drawn.code == 0);
     *session = drawn.session;
@@ -872,7 +872,7 @@ static struct tailsprig_session calling(void)
 static void ci(void)
 {
     struct tailsprig_session session = calling(), other;
-    struct tailsprig_drawn drawn;
+    struct tailsprig_bits_drawn drawn;
     uint8_t ci[30], out[700], one[1];
     size_t at;
 

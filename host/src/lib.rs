@@ -144,7 +144,7 @@ pub mod c {
 
     #[derive(Clone, Copy, Debug, PartialEq, Eq)]
     #[repr(C)]
-    pub struct Drawn {
+    pub struct BitsDrawn {
         pub session: Session,
         pub bits: usize,
         pub code: i32,
@@ -197,7 +197,7 @@ pub mod c {
         pub fn tailsprig_start_caller_default(start: u32, function: u8, on: u8, off: u16) -> CallerStart;
         pub fn tailsprig_start_answerer(start: u32) -> Session;
         pub fn tailsprig_step(session: Session, event: u8, value: i32, now: u32) -> StepTaken;
-        pub fn tailsprig_draw(session: Session, out: *mut u8, out_len: usize) -> Drawn;
+        pub fn tailsprig_draw(session: Session, out: *mut u8, out_len: usize) -> BitsDrawn;
     }
 }
 

@@ -91,7 +91,7 @@ fn sessions_by_cadence() -> impl Iterator<Item = c::Session> {
     })
 }
 
-fn draw(session: c::Session, out: &mut [u8]) -> c::Drawn {
+fn draw(session: c::Session, out: &mut [u8]) -> c::BitsDrawn {
     // SAFETY: the session goes by value; the slice is lent for the call alone, with its length.
     unsafe { c::tailsprig_draw(session, out.as_mut_ptr(), out.len()) }
 }

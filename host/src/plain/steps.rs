@@ -1,5 +1,5 @@
 //! Steps in plain Rust, over the same table, and the bits of the cadence: what the benchmark measures the proved calls against.
-use crate::c::{Cadence, Drawn, Session, StepTaken};
+use crate::c::{BitsDrawn, Cadence, Session, StepTaken};
 use crate::steps::SILENCE;
 
 // The states, as the session holds them.
@@ -226,12 +226,12 @@ pub fn step(session: Session, event: u8, value: i32, now: u32) -> StepTaken {
 
 /// Draws the next bits of the cadence to the start of `out`. Kept a call of its own, as a call over the C ABI is.
 #[inline(never)]
-pub fn draw(mut session: Session, out: &mut [u8]) -> Drawn {
+pub fn draw(mut session: Session, out: &mut [u8]) -> BitsDrawn {
     if !in_range(&session) {
-        return Drawn { session, bits: 0, code: -10 };
+        return BitsDrawn { session, bits: 0, code: -10 };
     }
     if session.state != CALLING {
-        return Drawn { session, bits: 0, code: 0 };
+        return BitsDrawn { session, bits: 0, code: 0 };
     }
     let cadence = &mut session.cadence;
     let bits = if cadence.tone == 0 { out.len() } else { out.len().min(left(cadence).into()) };
@@ -244,5 +244,5 @@ pub fn draw(mut session: Session, out: &mut [u8]) -> Drawn {
         cadence.place = if cadence.place + 1 == period { 0 } else { cadence.place + 1 };
     }
     cadence.sent += bits.min(usize::from(THIRD - cadence.sent)) as u8;
-    Drawn { session, bits, code: 0 }
+    BitsDrawn { session, bits, code: 0 }
 }

@@ -10,7 +10,7 @@ use std::path::Path;
 use std::process::{Command, Stdio};
 use std::time::Instant;
 use std::{env, fs, io, process};
-use tailsprig::c::{Block, Cadence, Drawn, Modes, Record, Session, StepTaken};
+use tailsprig::c::{BitsDrawn, Block, Cadence, Modes, Record, Session, StepTaken};
 use tailsprig::{c, model::Model, plain, text, Kind, Listener, Report};
 
 const ROUNDS: usize = 200;
@@ -311,7 +311,7 @@ fn all_stepping() {
 }
 
 /// Draws as many bits as `out` holds, so many a call, from the first of a cadence on.
-fn drawn(out: &mut [u8], a_call: usize, draw: impl Fn(Session, &mut [u8]) -> Drawn) -> Session {
+fn drawn(out: &mut [u8], a_call: usize, draw: impl Fn(Session, &mut [u8]) -> BitsDrawn) -> Session {
     let mut session = Session { state: 2, ..CALLER_AT_START };
     for piece in out.chunks_mut(a_call) {
         session = black_box(draw(black_box(session), black_box(piece))).session;

@@ -472,7 +472,7 @@ fn draw_some(
     first: &c::Session,
     session: c::Session,
     asked: &mut Vec<String>,
-) -> Result<c::Drawn, Difference> {
+) -> Result<c::BitsDrawn, Difference> {
     let room = inputs::asked_for(random, &session);
     asked.push(format!("bits={room}"));
     let (bits, behind) = match numbers::session(&session) {
@@ -482,7 +482,7 @@ fn draw_some(
         }
         None => (Err(Refusal(10)), session),
     };
-    let expected = c::Drawn {
+    let expected = c::BitsDrawn {
         session: behind,
         bits: bits.as_ref().map_or(0, Vec::len),
         code: bits.as_ref().map_or_else(|refusal| numbers::refused(*refusal), |_| 0),
