@@ -3,3 +3,4 @@ pub mod Bits
 pub mod Outcomes
 pub mod Moves
 pub mod Left
+pub mod Placed
