@@ -18,6 +18,7 @@ pub mod OneCadence
 pub mod WholeCall
 pub mod AnyEvents
 pub mod CallsHappen
+pub mod Sounding
 pub mod FromBits
 pub mod OwnFields
 pub mod Numbers

@@ -121,16 +121,18 @@ toned-stage s leading d ds rest acts inside next-due leads order =
     let c = here .at .cadence in
     let is = here .waited .session in
     let led : stepped (here .at) (d .event) (d .value) (here .now) .session ≡ leading (here .now) c =
-        ap (λ (x : Session). stepped x (d .event) (d .value) (here .now) .session) is
-        ∙ leads c (here .waited .tone) (subst (λ (x : Session). inRange x ≡ true) is (here .waited .inside)) (here .now) (subst (λ (x : Session). inTime x d (here .now) ≡ true) is (here .time)) in
-    (record {
-      now = here .now;
-      cadence = c;
-      rest = here .rest;
-      inside = subst (λ (x : Session). inRange x ≡ true) led (step-keeps-range (here .at) (d .event) (d .value) (here .now) (here .waited .inside));
-      order = subst (λ (ds′ : List Due). InOrder (leading (here .now) c) ds′ (here .rest)) (ap (λ (x : Session). behind x d ds) is ∙ next-due c) (subst (λ (x : Session). InOrder x (behind (here .at) d ds) (here .rest)) led (here .order));
-      same = here .same ∙ ap (λ (x : Session). run x (here .rest)) led;
-    }, here .waited .tone)
+    ap (λ (x : Session). stepped x (d .event) (d .value) (here .now) .session) is
+    ∙ leads c (here .waited .tone) (subst (λ (x : Session). inRange x ≡ true) is (here .waited .inside)) (here .now) (subst (λ (x : Session). inTime x d (here .now) ≡ true) is (here .time)) in (
+      record {
+        now = here .now;
+        cadence = c;
+        rest = here .rest;
+        inside = subst (λ (x : Session). inRange x ≡ true) led (step-keeps-range (here .at) (d .event) (d .value) (here .now) (here .waited .inside));
+        order = subst (λ (ds′ : List Due). InOrder (leading (here .now) c) ds′ (here .rest)) (ap (λ (x : Session). behind x d ds) is ∙ next-due c) (subst (λ (x : Session). InOrder x (behind (here .at) d ds) (here .rest)) led (here .order));
+        same = here .same ∙ ap (λ (x : Session). run x (here .rest)) led;
+      },
+      here .waited .tone,
+    )
 
 stage : (s : Session) (leading : ℕ → Cadence → Session) (d : Due) (ds rest : List Due) (acts : List Act) → inRange s ≡ true → ((c : Cadence) → behind (withCadence s c) d ds ≡ rest) → Leads s leading d → InOrder s (d ∷ ds) acts → Stage s leading rest acts
 stage s leading d ds rest acts inside next-due leads order = toned-stage s leading d ds rest acts inside next-due leads order .0
@@ -273,8 +275,8 @@ module _ (te start : ℕ) where
       let after = stepped (here .at) ansam 0 (here .now) .session in
       let soon = both-true _ _ (both-true _ _ (subst (λ (x : Session). inTime x (awaits ansam 0 0) (here .now) ≡ true) is (here .time)) .1) .0 in
       let led : after ≡ atTone (called c) ansam (enters (called c) quiet 0 (here .now)) .session =
-          ap (λ (x : Session). stepped x ansam 0 (here .now) .session) is
-          ∙ ap sessionOf (caller-goes-by-the-table te 0 start (here .now) c .onAnsam 0 (record { inside = subst (λ (x : Session). inRange x ≡ true) is (here .waited .inside); soon = ltb-true _ _ soon })) in
+      ap (λ (x : Session). stepped x ansam 0 (here .now) .session) is
+      ∙ ap sessionOf (caller-goes-by-the-table te 0 start (here .now) c .onAnsam 0 (record { inside = subst (λ (x : Session). inRange x ≡ true) is (here .waited .inside); soon = ltb-true _ _ soon })) in
       let stood = heard-by (ltb 0 (left c)) (here .now) c ds (here .rest) after refl (eq-eqb (c .tone) 0 (here .waited .tone ∙ toneless)) led (step-keeps-range (here .at) ansam 0 (here .now) (here .waited .inside)) (here .order) in
       record { now = stood .now; cadence = stood .cadence; rest = stood .rest; inside = stood .inside; order = stood .order; same = here .same ∙ stood .same }
 

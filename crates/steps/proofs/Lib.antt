@@ -5,6 +5,7 @@ pub mod Ranges
 pub mod Refused
 pub mod Unique
 pub mod Runs
+pub mod Finished
 pub mod Drawings
 pub mod Ticks
 pub mod Choices

@@ -2,12 +2,13 @@
 -- before it, and the ten 1s behind them the last; CJ stands nowhere in them, so a reader that does not listen for it makes the same of them.
 -- Assumes nothing.
 use Prim.Native.Nat.{ℕ, zero, suc, _≤_}
-use mathlib.Core.Path.{_≡_, refl, ap, _∙_}
+use mathlib.Core.Path.{_≡_, refl, sym, ap, _∙_}
 use mathlib.Core.Bool.{true, false}
-use mathlib.Core.List.{List, [], _∷_, _++_, append-assoc}
+use mathlib.Core.List.{List, [], _∷_, _++_, append-assoc, append-nil}
 use lib.Dec.{lit<}
 use lib.ListN.{length, take, replicate}
 use Rattle.octets.specs.declared.Kind.{Kind}
+use Rattle.octets.specs.declared.Kind.the-variants.{Ci, Menu}
 use Rattle.octets.specs.declared.Purpose.the-variants.{Writing}
 use Rattle.refusals.specs.Refusals.{before}
 use Rattle.octets.specs.Lists.{listFault}
@@ -18,7 +19,7 @@ use Rattle.sequences.specs.Writing.{written}
 use Rattle.listening.specs.declared.Listener.{Listener}
 use Rattle.listening.specs.Record.{empty, fresh}
 use Rattle.stretches.specs.Stretch.{octetsAll, AcceptedMessage}
-use Rattle.stretches.specs.Hearing.{Report, message, reports, nothing, flagged, Sent, none-sent, sent, lineOf, messagesOf, repeated}
+use Rattle.stretches.specs.Hearing.{Report, message, reports, nothing, earlier, flagged, Sent, none-sent, sent, lineOf, messagesOf, repeated}
 use Rattle.stretches.proofs.Each.{Each, none, more, each-append, Bits}
 use Rattle.octets.proofs.Lists.{before-none}
 use Rattle.stretches.proofs.Sound.{Sound, accepted-sound, accepted-length}
@@ -80,24 +81,61 @@ first-sent (sent kind octets accepted later) rec idle = rw append-assoc (goes-on
 pub sent-read : (messages : Sent) → reports fresh (lineOf messages ++ tenOnes) ≡ flagged nothing (messagesOf messages)
 sent-read messages = by-messages (lineOf messages ++ tenOnes) (messagesOf messages) (fresh-plain (lineOf messages ++ tenOnes) (each-append (sent-bits messages) ones-bits) (no-cj-sent messages) ∙ first-sent messages fresh fresh-idle .tells)
 
--- copies are one message sent again and again
-module _ (kind : Kind) (octets : List ℕ) (accepted : AcceptedMessage kind octets) where
+-- copies are one message sent again and again, in front of others
+module _ (kind : Kind) (octets : List ℕ) (accepted : AcceptedMessage kind octets) (others : Sent) where
   again : ℕ → Sent
-  again zero = none-sent
+  again zero = others
   again (suc n) = sent kind octets accepted (again n)
 
-  again-line : (n : ℕ) → lineOf (again n) ≡ copies n (sequence kind octets)
+  again-line : (n : ℕ) → lineOf (again n) ≡ copies n (sequence kind octets) ++ lineOf others
   unfolding again copies
   again-line zero = refl
-  again-line (suc n) = ap (λ (l : List ℕ). sequence kind octets ++ l) (again-line n)
+  again-line (suc n) = ap (λ (l : List ℕ). sequence kind octets ++ l) (again-line n) ∙ sym (append-assoc (sequence kind octets) (copies n (sequence kind octets)) (lineOf others))
 
-  again-told : (n : ℕ) → messagesOf (again n) ≡ replicate n (message kind octets false)
+  again-told : (n : ℕ) → messagesOf (again n) ≡ replicate n (message kind octets false) ++ messagesOf others
   unfolding again
   again-told zero = refl
   again-told (suc n) = ap (λ (l : List Report). message kind octets false ∷ l) (again-told n)
 
+module _ (kind : Kind) (octets : List ℕ) (accepted : AcceptedMessage kind octets) where
+  alone-line : (n : ℕ) → lineOf (again kind octets accepted none-sent n) ≡ copies n (sequence kind octets)
+  alone-line n = again-line kind octets accepted none-sent n ∙ append-nil (copies n (sequence kind octets))
+
+  alone-told : (n : ℕ) → messagesOf (again kind octets accepted none-sent n) ≡ replicate n (message kind octets false)
+  alone-told n = again-told kind octets accepted none-sent n ∙ append-nil (replicate n (message kind octets false))
+
   pub copies-read : (n : ℕ) → reports fresh (copies n (sequence kind octets) ++ tenOnes) ≡ repeated kind octets n
-  copies-read n = rw (← (again-line n)) (sent-read (again n) ∙ ap (flagged nothing) (again-told n) ∙ flagged-repeated kind octets accepted n)
+  copies-read n = rw (← (alone-line n)) (sent-read (again kind octets accepted none-sent n) ∙ ap (flagged nothing) (alone-told n) ∙ flagged-repeated kind octets accepted n)
+
+-- copies of a CI in front of copies of a menu: the last CI is reported at the menu's ten 1s, and the menu is agreed from its second copy on
+module _ (ci octets : List ℕ) (named : AcceptedMessage Ci ci) (accepted : AcceptedMessage Menu octets) where
+  abbrev both-sent : ℕ → ℕ → Sent
+  both-sent n m = again Ci ci named (again Menu octets accepted none-sent m) n
+
+  -- a CI agrees with no menu behind it, as nothing does
+  behind-ci : (m : ℕ) → flagged (earlier Ci ci) (replicate m (message Menu octets false)) ≡ flagged nothing (replicate m (message Menu octets false))
+  unfolding flagged
+  behind-ci zero = refl
+  behind-ci (suc m) = refl
+
+  ci-flagged : (n m : ℕ) → flagged (earlier Ci ci) (replicate n (message Ci ci false) ++ replicate m (message Menu octets false)) ≡ replicate n (message Ci ci false) ++ repeated Menu octets m
+  unfolding flagged
+  ci-flagged zero m = behind-ci m ∙ flagged-repeated Menu octets accepted m
+  ci-flagged (suc n) m = ap (λ (l : List Report). message Ci ci false ∷ l) (ci-flagged n m)
+
+  both-flagged : (n m : ℕ) → flagged nothing (replicate n (message Ci ci false) ++ replicate m (message Menu octets false)) ≡ replicate n (message Ci ci false) ++ repeated Menu octets m
+  unfolding flagged
+  both-flagged zero m = flagged-repeated Menu octets accepted m
+  both-flagged (suc n) m = ap (λ (l : List Report). message Ci ci false ∷ l) (ci-flagged n m)
+
+  pub ci-then-copies : (n m : ℕ) → reports fresh (copies n (sequence Ci ci) ++ (copies m (sequence Menu octets) ++ tenOnes)) ≡ replicate n (message Ci ci false) ++ repeated Menu octets m
+  ci-then-copies n m =
+      let line = again-line Ci ci named (again Menu octets accepted none-sent m) n ∙ ap (λ (l : List ℕ). copies n (sequence Ci ci) ++ l) (alone-line Menu octets accepted m) in
+      let told = again-told Ci ci named (again Menu octets accepted none-sent m) n ∙ ap (λ (l : List Report). replicate n (message Ci ci false) ++ l) (alone-told Menu octets accepted m) in
+      ap (reports fresh) (sym (append-assoc (copies n (sequence Ci ci)) (copies m (sequence Menu octets)) tenOnes) ∙ ap (λ (l : List ℕ). l ++ tenOnes) (sym line))
+      ∙ sent-read (both-sent n m)
+      ∙ ap (flagged nothing) told
+      ∙ both-flagged n m
 
 -- where the writer says how many bits it wrote, these stand at the front of its buffer
 pub buffer-read : (kind : Kind) (octets : List ℕ) (n : ℕ) (out : List ℕ) (size : ℕ) → octetsAll octets ≡ true → written kind octets n out .answer ≡ count size
