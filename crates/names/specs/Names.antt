@@ -65,6 +65,7 @@ names =
     entry "Te" line 6 ∷
     entry "damaged" line 7 ∷
     entry "blocks" line 8 ∷
+    entry "cadence" line 9 ∷
     entry "H.324" function 1 ∷
     entry "textphone" function 2 ∷
     entry "videotex" function 3 ∷
