@@ -13,13 +13,15 @@ use Rattle.laws.specs.Logic.{when, both, either}
 use Rattle.laws.proofs.Logic.{either-way, clash}
 use Rattle.records.specs.declared.Record.{Record}
 use Rattle.records.specs.Record.{inUse, badRecord}
+use Rattle.cadence.specs.Cadence.{isCadence}
 use Rattle.steps.specs.Session.{isTe, defaultTe}
 use Rattle.plans.specs.declared.Plan.{Plan}
 use Rattle.plans.specs.declared.Answer.{Answer}
 use Rattle.plans.specs.declared.Reading.{Reading}
 use Rattle.plans.specs.Text.{lineFeed, word}
-use Rattle.plans.specs.Reading.{beginning, inEnd, bits, octets, firstOctet, stranger, done, noFunction, homeNotHad, pcmAlone, noCaller, noAnswerer, noCall, place, home, setAt, store, lacksCall, planning, isStranger, isSaid, recordOf, recordMistake, withHome, finishEnd, mayEnd, finishLine, scanAfter, beginsWord, readByte, noPlan, fresh, answer, missing, withDefault, finished, readFrom, octetAt, oneOctet, octetsFrom, octetsIn, cmIn}
+use Rattle.plans.specs.Reading.{beginning, inEnd, bits, octets, firstOctet, stranger, done, defaultOn, defaultOff, isOn, noFunction, homeNotHad, pcmAlone, noCaller, noAnswerer, noCall, place, home, setAt, store, lacksCall, planning, isStranger, isSaid, recordOf, recordMistake, withHome, finishEnd, mayEnd, finishLine, scanAfter, beginsWord, readByte, noPlan, fresh, answer, missing, withDefault, finished, readFrom, octetAt, oneOctet, octetsFrom, octetsIn, cmIn}
 use Rattle.plans.specs.Good.{GoodEnd, KnownCaller, Stranger, Good, PlansAreGood}
+use Rattle.plans.proofs.Cadences.{both-periods}
 use Rattle.plans.proofs.Marking.{zeros-at}
 use Rattle.plans.proofs.Marks.{are-octets}
 use Rattle.plans.proofs.Walk.{feeds-no-word}
@@ -136,6 +138,19 @@ te-given te h = go (eqb te 0) h
     go true _ = refl
     go false is-te = is-te
 
+-- a cadence, or the one of a text that gives none
+cadence-given :
+    (on off : ℕ) → either (eqb on 0) (isOn on) ≡ true → either (eqb off 0) (isCadence defaultOn off) ≡ true
+    → isCadence (when (eqb on 0) defaultOn on) (when (eqb off 0) defaultOff off) ≡ true
+unfolding when either both
+cadence-given on off is-on is-off = go (eqb on 0) (eqb off 0) is-on is-off
+  where
+    go : (a b : Bool) → either a (isOn on) ≡ true → either b (isCadence defaultOn off) ≡ true → isCadence (when a defaultOn on) (when b defaultOff off) ≡ true
+    go true true _ _ = refl
+    go true false _ off-given = off-given
+    go false true on-given _ = on-given
+    go false false on-given off-given = both-periods on off defaultOn defaultOff on-given off-given
+
 good-end : (plan : Plan) (end : ℕ) → Sound (plan .sets) → badRecord (recordOf plan end) ≡ false → GoodEnd plan end
 good-end plan end sound accepted = record {
   accepted = accepted;
@@ -178,6 +193,7 @@ good-plan cm r kept out none-missing =
       caller = good-caller plan (kept .parts) out (λ k h is. kept .calling .nothing-said is k h) none-missing;
       answerer = good-end (withDefault plan) 2 (kept .parts .sets) (out .each 2 (lit≤ tt) (lit≤ tt) (ltb-true 0 (setAt plan 2 home) (all-said plan none-missing .1)));
       te = te-given (plan .te) (kept .parts .te);
+      cadence = cadence-given (plan .on) (plan .off) (kept .parts .on) (kept .parts .off);
     }
 
 -- an answer that is no mistake, and the octets of a stranger's CM: some, or none of a caller that is known
@@ -216,7 +232,7 @@ good-text (b ∷ rest) cm r scan at kept =
 kept-fresh : Kept [] fresh
 unfolding lacksCall both either when
 kept-fresh = record {
-  parts = record { sets = (refl, λ p. rw (zeros-at 16 p) (fits-none (p % 8))); function = omega arith; te = refl };
+  parts = record { sets = (refl, λ p. rw (zeros-at 16 p) (fits-none (p % 8))); function = omega arith; te = refl; on = refl; off = refl };
   names = no-names noPlan 0;
   inside = λ e. clash (sym e);
   outside = λ _. record { each = λ e _ _ some. absurd (omega (arith, some, zeros-at 16 (place e home))); has-call = refl };

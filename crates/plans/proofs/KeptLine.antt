@@ -16,10 +16,11 @@ use Rattle.laws.specs.Logic.{when, both, either}
 use Rattle.laws.proofs.Logic.{either-way, clash}
 use Rattle.items.specs.Items.{inSet}
 use Rattle.records.specs.Record.{badRecord}
+use Rattle.cadence.specs.Cadence.{isCadence}
 use Rattle.steps.specs.Session.{isTe}
 use Rattle.plans.specs.declared.Plan.{Plan}
 use Rattle.plans.specs.declared.Reading.{Reading}
-use Rattle.plans.specs.Reading.{inEnd, afterCall, modeFirst, callNotHad, twice, firstOctet, octets, stranger, planned, mistaken, beginLine, place, home, setAt, store, added, say, firstOf, nameFunction, nameHome, nameMode, lacksCall, oneOf, recordOf}
+use Rattle.plans.specs.Reading.{inEnd, afterCall, modeFirst, callNotHad, twice, firstOctet, octets, stranger, defaultOn, isOn, withSets, mistaken, beginLine, place, home, setAt, store, added, say, firstOf, nameFunction, nameHome, nameMode, lacksCall, oneOf, recordOf}
 use Rattle.plans.proofs.Places.{set-here, ends-apart}
 use Rattle.plans.proofs.KeptSets.{Fits, Sound, sound-at, sound-set, fits-home, fits-wanted, fits-more, named-odd, added-odd}
 
@@ -28,6 +29,8 @@ pub record Parts (plan : Plan) : Type 0 where
   pub sets : Sound (plan .sets)
   pub function : plan .function ≤ stranger
   pub te : either (eqb (plan .te) 0) (isTe (plan .te)) ≡ true
+  pub on : either (eqb (plan .on) 0) (isOn (plan .on)) ≡ true
+  pub off : either (eqb (plan .off) 0) (isCadence defaultOn (plan .off)) ≡ true
 
 -- the functions of a line are such, and the last is named
 pub record Named (plan : Plan) (end last first : ℕ) : Type 0 where
@@ -134,7 +137,7 @@ module _ (cm : List ℕ) (r : Reading) (kept : Kept cm r) where
   -- one of its sets is changed
   module _ (is-inside : within (r .context) ≡ true) (k numbers : ℕ) (h : k < 8) (fits : Fits k numbers) where
     abbrev after : Plan
-    after = planned (set (r .plan .sets) (place (r .end) k) numbers) (r .plan .function) (r .plan .te)
+    after = withSets (r .plan) (set (r .plan .sets) (place (r .end) k) numbers)
 
     other-done : (e : ℕ) → 1 ≤ e → e ≤ 2 → (e ≡ r .end → ⊥) → Done after e
     other-done e low high apart some =
@@ -164,7 +167,7 @@ module _ (cm : List ℕ) (r : Reading) (kept : Kept cm r) where
     kept-store : (last first : ℕ) → Named after (r .end) last first → Kept cm (store r k numbers last first)
     unfolding both
     kept-store last first names = record {
-      parts = record { sets = sound-set (r .plan .sets) (kept .parts .sets) (r .end) k h numbers fits; function = kept .parts .function; te = kept .parts .te };
+      parts = record { sets = sound-set (r .plan .sets) (kept .parts .sets) (r .end) k h numbers fits; function = kept .parts .function; te = kept .parts .te; on = kept .parts .on; off = kept .parts .off };
       names = names;
       inside = λ _. record { low = kept .inside is-inside .low; high = kept .inside is-inside .high; other = other-done };
       outside = λ e. clash e;

@@ -15,11 +15,13 @@ use Rattle.laws.proofs.Logic.{either-way, both-true, both-neither, clash}
 use Rattle.names.specs.declared.Meaning.{Meaning}
 use Rattle.names.specs.Names.{end, line, function, mode, otherMode, part, wanted, quality, named}
 use Rattle.records.specs.Record.{badRecord}
+use Rattle.cadence.specs.Cadence.{isCadence}
 use Rattle.steps.specs.Session.{isTe}
 use Rattle.plans.specs.declared.Plan.{Plan}
 use Rattle.plans.specs.declared.Reading.{Reading}
 use Rattle.plans.specs.Text.{number, noOctet, octet}
-use Rattle.plans.specs.Reading.{beginning, inEnd, afterHome, afterWants, afterCall, afterTe, afterDamaged, firstBit, bits, done, firstOctet, octets, sendsAlone, octetsBehind, stranger, twice, planned, mistaken, going, beginLine, home, setAt, say, lacksCall, planning, allSaid, nothingYet, nameCm, partWord, endWord, isSaid, beginNamed, behindName, firstWord, nameCall, functionWord, nameWord, teWord, oneOf, bitWord, octetWord, atBits, atOctets, readWord, recordOf, oneOctet}
+use Rattle.plans.specs.Reading.{beginning, inEnd, afterHome, afterWants, afterCall, afterTe, afterDamaged, firstBit, bits, done, firstOctet, octets, sendsAlone, octetsBehind, cadenceBehind, afterCadence, afterOn, defaultOn, defaultOff, stranger, twice, withCall, mistaken, going, beginLine, home, setAt, say, lacksCall, planning, cadenced, allSaid, nothingYet, nameCm, partWord, endWord, isSaid, beginNamed, behindName, firstWord, nameCall, functionWord, nameWord, teWord, isOn, onWord, offWord, oneOf, bitWord, octetWord, atBits, atOctets, atNumber, numberWord, readWord, recordOf, oneOctet}
+use Rattle.plans.proofs.Cadences.{both-periods}
 use Rattle.plans.proofs.Meant.{Meant, meant}
 use Rattle.plans.proofs.KeptLine.{Outside, within, Calling, Settled, calling-on, settled-within, Kept, Later, call-had, new-line, kept-wanted, kept-mode, kept-home, kept-function}
 
@@ -32,11 +34,16 @@ not-within : (n : ℕ) → 5 ≤ n → within n ≡ false
 not-within n high = simp (le-ltb n 5 high, both-neither)
 
 behind-line : (n : ℕ) → 5 ≤ n → 5 ≤ behindName n
-behind-line n high = either-way (λ (k : ℕ). 5 ≤ k) (eqb n octetsBehind) firstOctet n (λ _. lit≤ tt) (λ _. high)
+behind-line n high =
+    either-way (λ (k : ℕ). 5 ≤ k) (eqb n octetsBehind) firstOctet (when (eqb n cadenceBehind) afterCadence n) (λ _. lit≤ tt)
+    (λ _. either-way (λ (k : ℕ). 5 ≤ k) (eqb n cadenceBehind) afterCadence n (λ _. lit≤ tt) (λ _. high))
 
 -- what may come next is a function to call behind the name of that line alone
 behind-call : (n : ℕ) → behindName n ≡ afterCall → n ≡ afterCall
-behind-call n = either-way (λ (k : ℕ). k ≡ afterCall → n ≡ afterCall) (eqb n octetsBehind) firstOctet n (λ _ e. absurd (omega (arith, e))) (λ _ e. e)
+behind-call n =
+    let P : ℕ → Type 0 = λ (k : ℕ). k ≡ afterCall → n ≡ afterCall in
+    either-way P (eqb n octetsBehind) firstOctet (when (eqb n cadenceBehind) afterCadence n) (λ _ e. absurd (omega (arith, e)))
+    (λ _. either-way P (eqb n cadenceBehind) afterCadence n (λ _ e. absurd (omega (arith, e))) (λ _ e. e))
 
 -- so no function was called before
 none-called : (plan : Plan) (name : ℕ) → isSaid plan name ≡ false → name ≡ afterCall → plan .function ≡ 0
@@ -59,6 +66,11 @@ unsaid plan end none (suc (suc (suc (suc (suc zero))))) h = omega (arith, none)
 unsaid plan end none (suc (suc (suc (suc (suc (suc zero)))))) h = omega (arith, none)
 unsaid plan end none (suc (suc (suc (suc (suc (suc (suc zero))))))) h = omega (arith, none)
 unsaid plan end none (suc (suc (suc (suc (suc (suc (suc (suc k)))))))) h = absurd (omega (arith, h))
+
+or-else : {b : Bool} (a : Bool) → b ≡ true → either a b ≡ true
+unfolding either
+or-else true h = refl
+or-else false h = h
 
 module _ (cm : List ℕ) (r : Reading) (kept : Kept cm r) where
   slip : (what : ℕ) → Later cm (mistaken r what)
@@ -95,12 +107,12 @@ module _ (cm : List ℕ) (r : Reading) (kept : Kept cm r) where
       let none-said = unsaid (r .plan) 1 (eqb-true (allSaid (r .plan) 1) 0 (second .0)) in
       let none-called = eqb-true (r .plan .function) 0 (second .1) in
       record {
-        parts = record { sets = kept .parts .sets; function = le-refl stranger; te = kept .parts .te };
+        parts = record { sets = kept .parts .sets; function = le-refl stranger; te = kept .parts .te; on = kept .parts .on; off = kept .parts .off };
         names = record { first-one = kept .names .first-one; last-one = kept .names .last-one; odd = kept .names .odd };
         inside = λ e. clash (sym e);
         outside = λ _. record {
           each = λ e low high some. go is-caller none-said e low high some (eqb e 1) refl;
-          has-call = call-had (lacksCall (planned (r .plan .sets) stranger (r .plan .te))) (r .what) right;
+          has-call = call-had (lacksCall (withCall (r .plan) stranger (r .plan .te))) (r .what) right;
         };
         calling = record {
           nothing-said = λ _. none-said;
@@ -171,10 +183,10 @@ module _ (cm : List ℕ) (r : Reading) (kept : Kept cm r) where
       (f te : ℕ) → Outside (r .plan) → f ≤ stranger → either (eqb te 0) (isTe te) ≡ true → Calling (r .plan .sets) f (r .end) done cm → Later cm (planning r f te done)
   unfolding planning recordOf both
   kept-planned f te out seven is-te calling right = record {
-    parts = record { sets = kept .parts .sets; function = seven; te = is-te };
+    parts = record { sets = kept .parts .sets; function = seven; te = is-te; on = kept .parts .on; off = kept .parts .off };
     names = record { first-one = kept .names .first-one; last-one = kept .names .last-one; odd = kept .names .odd };
     inside = λ e. clash (sym e);
-    outside = λ _. record { each = out .each; has-call = call-had (lacksCall (planned (r .plan .sets) f te)) (r .what) right };
+    outside = λ _. record { each = out .each; has-call = call-had (lacksCall (withCall (r .plan) f te)) (r .what) right };
     calling = calling;
   }
 
@@ -231,10 +243,38 @@ module _ (cm : List ℕ) (r : Reading) (kept : Kept cm r) where
       (λ is-te. kept-planned (r .plan .function) te (kept .outside (at-context afterTe here)) (kept .parts .function) (or-else (eqb te 0) is-te)
       (calling-on (kept .calling) (settled-at afterTe here (λ e. omega (arith, e))) (r .end) done (λ _ e. clash (sym e)) (λ _. refl) (λ e. absurd (omega (arith, e)))))
       (λ _. slip afterTe)
-    where
-      or-else : {b : Bool} (a : Bool) → b ≡ true → either a b ≡ true
-      or-else true h = refl
-      or-else false h = h
+
+  -- the numbers of a cadence change nothing else
+  kept-cadenced :
+      (here : ℕ) → eqb (r .context) here ≡ true → 5 ≤ here → (here ≡ firstOctet → ⊥) → (on off context : ℕ) → either (eqb on 0) (isOn on) ≡ true
+      → either (eqb off 0) (isCadence defaultOn off) ≡ true → within context ≡ false → oneOf context firstOctet octets ≡ false → (context ≡ afterCall → ⊥)
+      → Later cm (cadenced r on off context)
+  unfolding cadenced recordOf lacksCall
+  kept-cadenced here is-here high apart on off context is-on is-off outside no-octets no-call _ =
+      let out = kept .outside (at-context here is-here ∙ not-within here high) in
+      record {
+        parts = record { sets = kept .parts .sets; function = kept .parts .function; te = kept .parts .te; on = is-on; off = is-off };
+        names = record { first-one = kept .names .first-one; last-one = kept .names .last-one; odd = kept .names .odd };
+        inside = λ e. clash (sym e ∙ outside);
+        outside = λ _. record { each = out .each; has-call = out .has-call };
+        calling = calling-on (kept .calling) (settled-at here is-here apart) (r .end) context (λ _ e. clash (sym e ∙ outside)) (λ _. no-octets) (λ e. absurd (no-call e));
+      }
+
+  kept-on : eqb (r .context) afterCadence ≡ true → (on : ℕ) → Later cm (onWord r on)
+  unfolding either both
+  kept-on here on =
+      either-way (Later cm) (isOn on) _ _
+      (λ is-on. kept-cadenced afterCadence here (lit≤ tt) (λ e. omega (arith, e)) on (r .plan .off) afterOn (or-else (eqb on 0) is-on) (kept .parts .off) refl refl (λ e. omega (arith, e)))
+      (λ _. slip afterCadence)
+
+  kept-off : eqb (r .context) afterOn ≡ true → (off : ℕ) → Later cm (offWord r off)
+  unfolding either both
+  kept-off here off =
+      either-way (Later cm) (isCadence (r .plan .on) off) _ _
+      (λ is-cadence.
+      let is-off = both-periods defaultOn off (r .plan .on) defaultOff refl is-cadence in
+      kept-cadenced afterOn here (lit≤ tt) (λ e. omega (arith, e)) (r .plan .on) off done (kept .parts .on) (or-else (eqb off 0) is-off) refl refl (λ e. omega (arith, e)))
+      (λ _. slip afterOn)
 
   -- an entry of a list comes behind others: one of the two contexts is here
   one-here : (first further : ℕ) → oneOf (r .context) first further ≡ true → (r .context ≡ first) ⊎ (r .context ≡ further)
@@ -259,6 +299,31 @@ module _ (cm : List ℕ) (r : Reading) (kept : Kept cm r) where
       let settled : Settled (r .end) (r .context) = λ is _. ⊎-elim (λ e. omega (arith, e, is)) (λ e. omega (arith, e, is)) (one-here firstBit bits at-bits) in
       kept-going cm bits (not-inside firstBit bits (lit≤ tt) (lit≤ tt) at-bits)
       (calling-on (kept .calling) settled (r .end) bits (λ _ e. clash (sym e)) (λ _. refl) (λ e. absurd (omega (arith, e)))))
+
+  -- a number that is asked for
+  kept-number : atNumber r ≡ true → (n : ℕ) → Later cm (numberWord r n)
+  unfolding numberWord either
+  kept-number is-number n =
+      either-way (Later cm) (eqb (r .context) afterTe) _ _ (λ t. kept-te t n)
+      (λ no-te. either-way (Later cm) (eqb (r .context) afterCadence) _ _ (λ t. kept-on t n)
+      (λ no-cadence. either-way (Later cm) (eqb (r .context) afterOn) _ _ (λ t. kept-off t n)
+      (λ no-on. kept-bit (simp (no-te, no-cadence, no-on) at is-number) n)))
+
+  -- and no octet is
+  number-alone : atNumber r ≡ true → atOctets r ≡ false
+  unfolding either
+  number-alone is-number = go (eqb (r .context) afterTe) refl (eqb (r .context) afterCadence) refl (eqb (r .context) afterOn) refl is-number
+    where
+      there : (context : ℕ) → oneOf context firstOctet octets ≡ false → r .context ≡ context → atOctets r ≡ false
+      there context none is = ap (λ (c : ℕ). oneOf c firstOctet octets) is ∙ none
+
+      go :
+          (a : Bool) → eqb (r .context) afterTe ≡ a → (b : Bool) → eqb (r .context) afterCadence ≡ b → (c : Bool) → eqb (r .context) afterOn ≡ c
+          → either a (either b (either c (atBits r))) ≡ true → atOctets r ≡ false
+      go true is b _ c _ _ = there afterTe refl (eqb-true (r .context) afterTe is)
+      go false _ true is c _ _ = there afterCadence refl (eqb-true (r .context) afterCadence is)
+      go false _ false _ true is _ = there afterOn refl (eqb-true (r .context) afterOn is)
+      go false _ false _ false _ is-bit = ⊎-elim (there firstBit refl) (there bits refl) (one-here firstBit bits is-bit)
 
 -- an octet: in the caller's line it is one of a stranger's CM
 module _ (cm : List ℕ) (r : Reading) (kept : Kept cm r) (at-octets : atOctets r ≡ true) where
@@ -304,9 +369,6 @@ module _ (cm : List ℕ) (r : Reading) (kept : Kept cm r) (text : List ℕ) wher
   unfolding readWord both either
   kept-word =
       let P = Later (cmBehind cm r text) in
-      let elsewhere : (context : ℕ) → r .context ≡ context → oneOf context firstOctet octets ≡ false → atOctets r ≡ false = λ context is none. ap (λ (c : ℕ). oneOf c firstOctet octets) is ∙ none in
-      either-way P (eqb (r .context) afterTe) _ _ (λ t. same-cm _ (elsewhere afterTe (eqb-true (r .context) afterTe t) refl) (kept-te cm r kept t (number text)))
-      (λ _. either-way P (atBits r) _ _
-      (λ t. same-cm _ (⊎-elim (λ e. elsewhere firstBit e refl) (λ e. elsewhere bits e refl) (one-here cm r kept firstBit bits t)) (kept-bit cm r kept t (number text)))
+      either-way P (atNumber r) _ _ (λ t. same-cm _ (number-alone cm r kept t) (kept-number cm r kept t (number text)))
       (λ _. either-way P (atOctets r) _ _ (λ t. rw t (kept-octet cm r kept t (octet text)))
-      (λ t. same-cm _ t (kept-name cm r kept (named text) (meant text)))))
+      (λ t. same-cm _ t (kept-name cm r kept (named text) (meant text))))

@@ -3,6 +3,7 @@ pub mod Numbers
 pub mod Typing
 pub mod Runs
 pub mod Decimals
+pub mod Cadences
 pub mod Marking
 pub mod Words
 pub mod Cases

@@ -1,9 +1,10 @@
--- The lines of a plain text, read one by one: the ends, a stranger, the call, Te.
+-- The lines of a plain text, read one by one: the ends, a stranger, the call, Te, the cadence.
 -- Assumes nothing.
 use Prim.Native.Nat.{ℕ, _<_, _%_}
+use native.Mathlib.Omega.{arith}
 use mathlib.Core.Path.{_≡_, refl, sym, subst}
 use mathlib.Core.Bool.{true, false}
-use mathlib.Core.List.{List, _++_, append-nil}
+use mathlib.Core.List.{List, _++_, append-nil, append-assoc}
 use borrow.Author.Tests.{lt-ltb}
 use lib.Dec.{ltb}
 use lib.ListN.{replicate}
@@ -12,14 +13,16 @@ use Rattle.laws.specs.Tests.{every, sameList}
 use Rattle.laws.proofs.Logic.{both-neither}
 use Rattle.names.specs.Bytes.{bytes}
 use Rattle.names.specs.Names.{names, namedBy, end, line, function, part}
+use Rattle.cadence.specs.Cadence.{isCadence}
 use Rattle.steps.specs.Session.{isTe}
 use Rattle.plans.specs.declared.Plan.{Plan}
 use Rattle.plans.specs.declared.Reading.{Reading}
 use Rattle.plans.specs.Text.{wordLength}
-use Rattle.plans.specs.Reading.{beginning, inEnd, afterCall, afterTe, done, firstOctet, stranger, planned, home, setAt, lacksCall, planning, partWord, endWord, isSaid, behindName, firstWord, functionWord, nameWord, readWord, recordOf, withHome, finishEnd, finishLine, noPlan, fresh}
-use Rattle.plans.specs.Plain.{functionName, decimal, teText}
+use Rattle.plans.specs.Reading.{beginning, inEnd, afterCall, afterTe, done, firstOctet, afterCadence, afterOn, defaultOn, defaultOff, stranger, planned, withCadence, home, setAt, lacksCall, planning, cadenced, partWord, endWord, isSaid, behindName, firstWord, functionWord, nameWord, numberWord, readWord, recordOf, withHome, finishEnd, finishLine, noPlan, fresh}
+use Rattle.plans.specs.Plain.{functionName, decimal, teText, cadenceText}
 use Rattle.plans.specs.Good.{GoodEnd}
 use Rattle.plans.proofs.Runs.{Found, Run, nothing, spaced, fed, join, word-run}
+use Rattle.plans.proofs.Cadences.{in-range, both-periods}
 use Rattle.plans.proofs.Decimals.{decimal-read, decimal-spelled, decimal-some}
 use Rattle.plans.proofs.Words.{Known, known, Line, lineOf, noLine, reading, name-run}
 use Rattle.plans.proofs.NameRuns.{names-stop}
@@ -50,6 +53,10 @@ damaged-known = known (bytes "damaged") line 7 tt
 pub blocks-known : Known (bytes "blocks") line 8
 unfolding names bytes every namedBy sameList when both either
 blocks-known = known (bytes "blocks") line 8 tt
+
+cadence-known : Known (bytes "cadence") line 9
+unfolding names bytes every namedBy sameList when both either
+cadence-known = known (bytes "cadence") line 9 tt
 
 sends-known : Known (bytes "sends") part 8
 unfolding names bytes every namedBy sameList when both either
@@ -106,6 +113,10 @@ module _ (plan : Plan) (before : Line) (d : Found) where
     unfolding bytes wordLength when either
     te-begins r′ text is-new run = fed is-fed refl (join {a = bytes "Te"} {b = replicate 8 32 ++ text} (line-begins (bytes "Te") 6 te-known is-new) refl (spaced 8 refl run))
 
+    cadence-begins : (r′ : Reading) (text : List ℕ) → isSaid plan 9 ≡ false → Run (reading plan (noLine 0) afterCadence) d text r′ d → Run r d (bytes "\ncadence   " ++ text) r′ d
+    unfolding bytes wordLength when either
+    cadence-begins r′ text is-new run = fed is-fed refl (join {a = bytes "cadence"} {b = replicate 3 32 ++ text} (line-begins (bytes "cadence") 9 cadence-known is-new) refl (spaced 3 refl run))
+
 -- a stranger's line, up to the octets of its CM
 pub sends-begins : (d : Found) → Run fresh d (bytes "caller    sends") (reading (planned (replicate 16 0) stranger 0) (noLine 1) firstOctet) d
 unfolding bytes wordLength isSaid nameWord endWord partWord planning lacksCall when both either
@@ -133,12 +144,43 @@ module _ (plan : Plan) (d : Found) where
 
   -- Te
   module _ (lacks : lacksCall (planned (plan .sets) (plan .function) (plan .te)) ≡ false) (is-te : isTe (plan .te) ≡ true) (small : plan .te < 100000) where
-    te-run : Run (called (plan .function) 0 afterTe) d (decimal (plan .te)) (reading plan (noLine 0) done) d
-    unfolding readWord planning when either both
+    te-run : Run (called (plan .function) 0 afterTe) d (decimal (plan .te)) (called (plan .function) (plan .te) done) d
+    unfolding readWord numberWord planning when either both
     te-run =
-        word-run (called (plan .function) 0 afterTe) (reading plan (noLine 0) done) d d (decimal (plan .te)) (decimal-some (plan .te) small) (decimal-spelled (plan .te))
+        word-run (called (plan .function) 0 afterTe) (called (plan .function) (plan .te) done) d d (decimal (plan .te)) (decimal-some (plan .te) small) (decimal-spelled (plan .te))
         (simp (decimal-read (plan .te) small, is-te, lacks)) refl refl (append-nil (d .octets)) refl
 
-    pub te-line : (r : Reading) → Ends (planned (plan .sets) (plan .function) 0) r → Run r d (teText (plan .te)) (reading plan (noLine 0) done) d
+    pub te-line : (r : Reading) → Ends (planned (plan .sets) (plan .function) 0) r → Run r d (teText (plan .te)) (called (plan .function) (plan .te) done) d
     unfolding isSaid when
-    te-line r ends = te-begins (planned (plan .sets) (plan .function) 0) (ends .0) d r (ends .1) (reading plan (noLine 0) done) (decimal (plan .te)) refl te-run
+    te-line r ends = te-begins (planned (plan .sets) (plan .function) 0) (ends .0) d r (ends .1) (called (plan .function) (plan .te) done) (decimal (plan .te)) refl te-run
+
+  -- the cadence, behind a line for Te or without one
+  module _ (te : ℕ) (is-cadence : isCadence (plan .on) (plan .off) ≡ true) where
+    abbrev paced : ℕ → ℕ → ℕ → Reading
+    paced on off context = reading (withCadence (planned (plan .sets) (plan .function) te) on off) (noLine 0) context
+
+    on-small : plan .on < 100000
+    on-small = omega (arith, in-range (plan .on) (plan .off) is-cadence .most-on)
+
+    off-small : plan .off < 100000
+    off-small = omega (arith, in-range (plan .on) (plan .off) is-cadence .most-off)
+
+    on-run : Run (paced 0 0 afterCadence) d (decimal (plan .on)) (paced (plan .on) 0 afterOn) d
+    unfolding readWord numberWord cadenced when either both
+    on-run =
+        let is-on : isCadence (plan .on) defaultOff ≡ true = both-periods (plan .on) defaultOff defaultOn (plan .off) is-cadence refl in
+        word-run (paced 0 0 afterCadence) (paced (plan .on) 0 afterOn) d d (decimal (plan .on)) (decimal-some (plan .on) on-small) (decimal-spelled (plan .on))
+        (simp (decimal-read (plan .on) on-small, is-on)) refl refl (append-nil (d .octets)) refl
+
+    off-run : Run (paced (plan .on) 0 afterOn) d (decimal (plan .off)) (paced (plan .on) (plan .off) done) d
+    unfolding readWord numberWord cadenced when either both
+    off-run =
+        word-run (paced (plan .on) 0 afterOn) (paced (plan .on) (plan .off) done) d d (decimal (plan .off)) (decimal-some (plan .off) off-small) (decimal-spelled (plan .off))
+        (simp (decimal-read (plan .off) off-small, is-cadence)) refl refl (append-nil (d .octets)) refl
+
+    pub cadence-line : (r : Reading) → Ends (planned (plan .sets) (plan .function) te) r → Run r d (cadenceText (plan .on) (plan .off)) (paced (plan .on) (plan .off) done) d
+    unfolding isSaid bytes wordLength when either
+    cadence-line r ends =
+        let on = cadence-begins (planned (plan .sets) (plan .function) te) (ends .0) d r (ends .1) (paced (plan .on) 0 afterOn) (decimal (plan .on)) refl on-run in
+        subst (λ (text : List ℕ). Run r d text (paced (plan .on) (plan .off) done) d) (sym (append-assoc (bytes "\ncadence   " ++ decimal (plan .on)) (bytes " ") (decimal (plan .off))))
+        (join on refl (spaced 1 refl off-run))

@@ -18,7 +18,7 @@ use Rattle.printing.specs.Page.{hexDigit, hexOctet}
 use Rattle.plans.specs.declared.Plan.{Plan}
 use Rattle.plans.specs.declared.Reading.{Reading}
 use Rattle.plans.specs.Text.{endsWord, wordLength, noOctet, hexValue, octet}
-use Rattle.plans.specs.Reading.{firstOctet, octets, isSaid, readWord, atBits, atOctets, oneOctet, finishLine}
+use Rattle.plans.specs.Reading.{firstOctet, octets, isSaid, readWord, atBits, atOctets, atNumber, oneOctet, finishLine}
 use Rattle.plans.specs.Plain.{entryText, octetsText}
 use Rattle.plans.specs.Good.{Octets}
 use Rattle.plans.proofs.Runs.{Stops, stops-joined, spelled, holds, Found, found, Run, nothing, spaced, fed, join, word-run}
@@ -99,14 +99,14 @@ module _ (plan : Plan) (end : ℕ) where
   within context = reading plan (noLine end) context
 
   octet-run :
-      (context b : ℕ) (d : Found) → eqb context 6 ≡ false → atBits (within context) ≡ false → atOctets (within context) ≡ true → b < 256
+      (context b : ℕ) (d : Found) → atNumber (within context) ≡ false → atBits (within context) ≡ false → atOctets (within context) ≡ true → b < 256
       → Run (within context) d (32 ∷ hexOctet b) (within octets) (withOctets end (b ∷ []) d)
   unfolding readWord when both
-  octet-run context b d no-te no-bits at-octets small =
+  octet-run context b d no-number no-bits at-octets small =
       let is-read = octet-read b small in
       spaced 1 refl
       (word-run (within context) (within octets) d (withOctets end (b ∷ []) d) (hexOctet b) (lit< tt) (octet-spelled b small)
-      (simp (no-te, no-bits, at-octets, is-read, le-ltb 255 b (omega (arith, small))))
+      (simp (no-number, at-octets, is-read, le-ltb 255 b (omega (arith, small))))
       refl
       (simp no-bits)
       (simp (at-octets, is-read) (ap (λ (one : List ℕ). d .octets ++ one) (one-given (eqb end (d .whose)) b small)))

@@ -15,7 +15,7 @@ use Rattle.names.specs.Bytes.{bytes}
 use Rattle.names.specs.Names.{Entry, names, named, namedBy, namesOf, function}
 use Rattle.plans.specs.declared.Plan.{Plan}
 use Rattle.plans.specs.declared.Reading.{Reading}
-use Rattle.plans.specs.Reading.{atBits, atOctets, nameWord, readWord}
+use Rattle.plans.specs.Reading.{atBits, atOctets, atNumber, nameWord, readWord}
 use Rattle.plans.specs.Plain.{functionName}
 use Rattle.plans.proofs.Runs.{spelled, holds, Found, Run, word-run}
 
@@ -81,8 +81,8 @@ reading plan line context = record { plan = plan; end = line .end; function = li
 -- a name is read
 module _ (r r′ : Reading) (d : Found) (word : List ℕ) (kind number : ℕ) where
   pub name-run :
-      Known word kind number → eqb (r .context) 6 ≡ false → atBits r ≡ false → atOctets r ≡ false → nameWord r (meaning kind number) ≡ r′ → r′ .what ≡ 0
+      Known word kind number → atNumber r ≡ false → atBits r ≡ false → atOctets r ≡ false → nameWord r (meaning kind number) ≡ r′ → r′ .what ≡ 0
       → Run r d word r′ d
   unfolding readWord when both
-  name-run is-known no-te no-bits no-octets is-read is-right =
-      word-run r r′ d d word (is-known .some) (is-known .whole) (simp (no-te, no-bits, no-octets, is-known .meant) is-read) is-right (simp no-bits) (simp (no-octets, append-nil)) refl
+  name-run is-known no-number no-bits no-octets is-read is-right =
+      word-run r r′ d d word (is-known .some) (is-known .whole) (simp (no-number, no-octets, is-known .meant) is-read) is-right (simp no-bits) (simp (no-octets, append-nil)) refl

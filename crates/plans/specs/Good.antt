@@ -9,10 +9,11 @@ use lib.ListN.{length, replicate}
 use Rattle.laws.specs.Tests.{every}
 use Rattle.names.specs.Bytes.{bytes}
 use Rattle.records.specs.Record.{badRecord}
+use Rattle.cadence.specs.Cadence.{isCadence}
 use Rattle.steps.specs.Session.{isTe}
 use Rattle.plans.specs.declared.Plan.{Plan}
 use Rattle.plans.specs.Reading.{home, stranger, setAt, recordOf, answer, readText, marked, blocksIn, cmIn}
-use Rattle.plans.specs.Plain.{octetsText, damageText, headText, plain}
+use Rattle.plans.specs.Plain.{octetsText, damageText, headText, teText, cadenceText, plain}
 
 -- an end whose record is accepted: sets of sixteen numbers; nothing is said of a function that it has not; the home function is one of six; it wants
 -- and is no more than there is
@@ -34,12 +35,13 @@ pub record Stranger (plan : Plan) : Type 0 where
   pub unknown : plan .function ≡ stranger
   pub nothing-said : (k : ℕ) → k < 8 → setAt plan 1 k ≡ 0
 
--- a call that can be made: a caller and an answerer, and Te within its range
+-- a call that can be made: a caller and an answerer, Te within its range, and a cadence that a caller starts with
 pub record Good (plan : Plan) : Type 0 where
   pub sixteen : length (plan .sets) ≡ 16
   pub caller : KnownCaller plan ⊎ Stranger plan
   pub answerer : GoodEnd plan 2
   pub te : isTe (plan .te) ≡ true
+  pub cadence : isCadence (plan .on) (plan .off) ≡ true
 
 -- 1 for each damaged bit of both ends, 0 for every other
 pub record Marks (damaged : List ℕ) : Type 0 where
@@ -77,13 +79,25 @@ PlainReadsBack =
 
 -- the plain form without its line for Te
 abbrev pub withoutTe : Plan → List ℕ → List ℕ → List ℕ → List ℕ
-withoutTe plan cm blocks damaged = headText plan cm ++ octetsText (bytes "\nblocks   ") 0 blocks ++ damageText damaged ++ bytes "\n"
+withoutTe plan cm blocks damaged =
+    headText plan cm ++ cadenceText (plan .on) (plan .off) ++ octetsText (bytes "\nblocks   ") 0 blocks ++ damageText damaged ++ bytes "\n"
 
 -- document 02, Req 01: "Without a value, Te becomes 1,000.": a text that says all of a call but Te is read as that call with a Te of 1,000
 abbrev pub TeIsTheDefault : Type 0
 TeIsTheDefault =
     (plan : Plan) (cm blocks damaged : List ℕ) → Good plan → Given plan cm → Octets blocks → Marks damaged → plan .te ≡ 1000
     → IsReadAs plan cm blocks damaged (withoutTe plan cm blocks damaged)
+
+-- the plain form without its line for the cadence
+abbrev pub withoutCadence : Plan → List ℕ → List ℕ → List ℕ → List ℕ
+withoutCadence plan cm blocks damaged =
+    headText plan cm ++ teText (plan .te) ++ octetsText (bytes "\nblocks   ") 0 blocks ++ damageText damaged ++ bytes "\n"
+
+-- a text that says all of a call but the cadence is read as that call with five sequences on and 450 bit times off
+abbrev pub CadenceIsTheDefault : Type 0
+CadenceIsTheDefault =
+    (plan : Plan) (cm blocks damaged : List ℕ) → Good plan → Given plan cm → Octets blocks → Marks damaged → plan .on ≡ 5 → plan .off ≡ 450
+    → IsReadAs plan cm blocks damaged (withoutCadence plan cm blocks damaged)
 
 -- what any text says, in plain form
 abbrev pub plainOf : List ℕ → List ℕ

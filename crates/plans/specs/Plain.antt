@@ -73,7 +73,7 @@ callerText plan cm = when (isStranger plan) (bytes "caller    sends" ++ octetsTe
 unfoldable pub calledText : ℕ → List ℕ
 calledText function = when (eqb function stranger) [] (bytes "\ncall     " ++ functionName function)
 
--- all that is said of the ends and of the call but Te
+-- all that is said of the ends and of the function called
 abbrev pub headText : Plan → List ℕ → List ℕ
 headText plan cm = callerText plan cm ++ endText (bytes "\nanswerer ") plan 2 ++ calledText (plan .function)
 
@@ -81,6 +81,11 @@ headText plan cm = callerText plan cm ++ endText (bytes "\nanswerer ") plan 2 ++
 abbrev pub teText : ℕ → List ℕ
 teText te = bytes "\nTe        " ++ decimal te
 
+-- the line for the cadence
+abbrev pub cadenceText : ℕ → ℕ → List ℕ
+cadenceText on off = bytes "\ncadence   " ++ decimal on ++ bytes " " ++ decimal off
+
 -- a plan, with the octets of a CM and of blocks, and with damaged bits
 unfoldable pub plain : Plan → List ℕ → List ℕ → List ℕ → List ℕ
-plain plan cm blocks damaged = headText plan cm ++ teText (plan .te) ++ octetsText (bytes "\nblocks   ") 0 blocks ++ damageText damaged ++ bytes "\n"
+plain plan cm blocks damaged =
+    headText plan cm ++ teText (plan .te) ++ cadenceText (plan .on) (plan .off) ++ octetsText (bytes "\nblocks   ") 0 blocks ++ damageText damaged ++ bytes "\n"

@@ -11,6 +11,7 @@ use Rattle.names.specs.Names.{end, line, function, mode, otherMode, part, wante
 use Rattle.records.specs.declared.Modes.{Modes}
 use Rattle.records.specs.declared.Record.{Record}
 use Rattle.records.specs.Record.{inUse, badRecord}
+use Rattle.cadence.specs.Cadence.{isCadence}
 use Rattle.steps.specs.Session.{isTe, defaultTe}
 use Rattle.plans.specs.declared.Plan.{Plan}
 use Rattle.plans.specs.declared.Answer.{Answer}
@@ -94,18 +95,46 @@ octets = 21
 abbrev pub sendsAlone : ℕ
 sendsAlone = 22
 
+-- behind `cadence`: how many sequences an on period has, and behind that how many bit times an off period has
+abbrev pub afterCadence : ℕ
+afterCadence = 23
+
+abbrev pub afterOn : ℕ
+afterOn = 24
+
 -- the number of the names behind which octets stand: that of the line for blocks, and that of the part for a CM; no name has a number above 15
 abbrev pub octetsBehind : ℕ
 octetsBehind = 8
+
+-- the number of the name behind which a cadence stands
+abbrev pub cadenceBehind : ℕ
+cadenceBehind = 9
+
+-- the cadence of a text that gives none: half a second on, one and a half off
+abbrev pub defaultOn : ℕ
+defaultOn = 5
+
+abbrev pub defaultOff : ℕ
+defaultOff = 450
 
 -- in place of a function: the caller's record is not known, and the text gives its CM; no function has this number
 abbrev pub stranger : ℕ
 stranger = 7
 
 -- a plan of these sets: of each end eight, the caller's first; what it wants and what its line is, then each function's modes, with 0 in the set
--- where the end has it, and last, as a number, its home function
+-- where the end has it, and last, as a number, its home function; and of no cadence
 abbrev pub planned : List ℕ → ℕ → ℕ → Plan
-planned sets function te = record { sets = sets; function = function; te = te }
+planned sets function te = record { sets = sets; function = function; te = te; on = 0; off = 0 }
+
+-- a plan with other sets, with another function and Te, with another cadence
+abbrev pub withSets : Plan → List ℕ → Plan
+withSets plan sets = record { sets = sets; function = plan .function; te = plan .te; on = plan .on; off = plan .off }
+
+abbrev pub withCall : Plan → ℕ → ℕ → Plan
+withCall plan function te = record { sets = plan .sets; function = function; te = te; on = plan .on; off = plan .off }
+
+abbrev pub withCadence : Plan → ℕ → ℕ → Plan
+withCadence plan on off = record { sets = plan .sets; function = plan .function; te = plan .te; on = on; off = off }
 
 -- a mistake, or 0 for none
 abbrev pub mistaken : Reading → ℕ → Reading
@@ -132,7 +161,7 @@ setAt plan end k = getD (plan .sets) (place end k) 0
 -- the line's end with one of its sets anew; modes behind it belong to the function, and the first function that the line names
 abbrev pub store : Reading → ℕ → ℕ → ℕ → ℕ → Reading
 store r k numbers function first = record {
-  plan = planned (set (r .plan .sets) (place (r .end) k) numbers) (r .plan .function) (r .plan .te);
+  plan = withSets (r .plan) (set (r .plan .sets) (place (r .end) k) numbers);
   end = r .end;
   function = function;
   first = first;
@@ -172,12 +201,23 @@ lacksCall plan = both (ltb 0 (setAt plan 1 home)) (both (ltb 0 (plan .function))
 -- a call with this function and Te, and what may come next; or the mistake that it cannot be made
 unfoldable pub planning : Reading → ℕ → ℕ → ℕ → Reading
 planning r function te context = record {
-  plan = planned (r .plan .sets) function te;
+  plan = withCall (r .plan) function te;
   end = r .end;
   function = r .function;
   first = r .first;
   context = context;
-  what = when (lacksCall (planned (r .plan .sets) function te)) callNotHad (r .what);
+  what = when (lacksCall (withCall (r .plan) function te)) callNotHad (r .what);
+}
+
+-- a cadence, as far as it is said, and what may come next
+unfoldable pub cadenced : Reading → ℕ → ℕ → ℕ → Reading
+cadenced r on off context = record {
+  plan = withCadence (r .plan) on off;
+  end = r .end;
+  function = r .function;
+  first = r .first;
+  context = context;
+  what = r .what;
 }
 
 -- all that is said of an end, as a sum: 0 where nothing is
@@ -218,15 +258,16 @@ isSaid plan number =
     (when (eqb number afterTe) (ltb 0 (plan .te))
     (when (eqb number afterDamaged) false
     (when (eqb number octetsBehind) false
+    (when (eqb number cadenceBehind) (ltb 0 (plan .on))
     (when (eqb number 1) (either (isStranger plan) (ltb 0 (setAt plan number home)))
-    (ltb 0 (setAt plan number home))))))
+    (ltb 0 (setAt plan number home)))))))
 
 abbrev pub beginNamed : Reading → ℕ → ℕ → ℕ → Reading
 beginNamed r name end context = when (isSaid (r .plan) name) (mistaken r twice) (beginLine r end context)
 
--- what may come next behind the name of a line that is about no end: that has the number of the name, but for blocks
+-- what may come next behind the name of a line that is about no end: that has the number of the name, but for blocks and a cadence
 abbrev pub behindName : ℕ → ℕ
-behindName name = when (eqb name octetsBehind) firstOctet name
+behindName name = when (eqb name octetsBehind) firstOctet (when (eqb name cadenceBehind) afterCadence name)
 
 -- the first word of a line
 unfoldable pub firstWord : Reading → Meaning → Reading
@@ -258,6 +299,16 @@ nameWord r m =
 abbrev pub teWord : Reading → ℕ → Reading
 teWord r te = when (isTe te) (planning r (r .plan .function) te done) (mistaken r afterTe)
 
+-- an on period that may be: it is tested beside an off period that may
+abbrev pub isOn : ℕ → Bool
+isOn on = isCadence on defaultOff
+
+abbrev pub onWord : Reading → ℕ → Reading
+onWord r on = when (isOn on) (cadenced r on (r .plan .off) afterOn) (mistaken r afterCadence)
+
+abbrev pub offWord : Reading → ℕ → Reading
+offWord r off = when (isCadence (r .plan .on) off) (cadenced r (r .plan .on) off done) (mistaken r afterOn)
+
 -- an entry of a list: none above the last that may be
 abbrev pub listed : Reading → ℕ → ℕ → ℕ → Reading
 listed r last n context = when (ltb last n) (mistaken r (r .context)) (going r context)
@@ -279,12 +330,22 @@ atBits r = oneOf (r .context) firstBit bits
 abbrev pub atOctets : Reading → Bool
 atOctets r = oneOf (r .context) firstOctet octets
 
+-- a number where one is asked for
+abbrev pub atNumber : Reading → Bool
+atNumber r = either (eqb (r .context) afterTe) (either (eqb (r .context) afterCadence) (either (eqb (r .context) afterOn) (atBits r)))
+
+unfoldable pub numberWord : Reading → ℕ → Reading
+numberWord r n =
+    when (eqb (r .context) afterTe) (teWord r n)
+    (when (eqb (r .context) afterCadence) (onWord r n)
+    (when (eqb (r .context) afterOn) (offWord r n)
+    (bitWord r n)))
+
 unfoldable pub readWord : Reading → List ℕ → Reading
 readWord r text =
-    when (eqb (r .context) afterTe) (teWord r (number text))
-    (when (atBits r) (bitWord r (number text))
+    when (atNumber r) (numberWord r (number text))
     (when (atOctets r) (octetWord r (octet text))
-    (nameWord r (named text))))
+    (nameWord r (named text)))
 
 -- what a set says of a function: 0 in it that it is named, 1 to 12 its items, from 13 on its PCM options
 abbrev pub modesOf : ℕ → Modes
@@ -361,9 +422,15 @@ answer plan what at = record { plan = plan; what = what; at = at }
 unfoldable pub missing : Plan → ℕ
 missing plan = when (isSaid plan 1) (when (isSaid plan 2) (when (isSaid plan afterCall) 0 noCall) noAnswerer) noCaller
 
--- a plan that gives no Te has that of a start without a value
+-- a plan that gives no Te has that of a start without a value, and one that gives no cadence has that of the house
 abbrev pub withDefault : Plan → Plan
-withDefault plan = planned (plan .sets) (plan .function) (when (eqb (plan .te) 0) defaultTe (plan .te))
+withDefault plan = record {
+  sets = plan .sets;
+  function = plan .function;
+  te = when (eqb (plan .te) 0) defaultTe (plan .te);
+  on = when (eqb (plan .on) 0) defaultOn (plan .on);
+  off = when (eqb (plan .off) 0) defaultOff (plan .off);
+}
 
 -- a text that was read to its end: its last line, then what is missing
 unfoldable pub finished : Reading → ℕ → Answer

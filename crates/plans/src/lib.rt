@@ -4,6 +4,7 @@
 //     answerer  data V.32bis V.22bis V.26ter
 //     call      data
 //     Te        500
+//     cadence   5 450
 //     blocks    05 B5 01 41 31 30
 //     damaged   caller 485 609
 //
@@ -23,9 +24,10 @@ ghost use Rattle.laws.specs.Logic.{when, both};
 ghost use Rattle.laws.specs.Front.{front};
 ghost use Rattle.printing.specs.Page.{page, typed};
 ghost use Rattle.plans.specs.Text.{wordLength, number, hexValue, octet, linesBefore, wordAt};
-ghost use Rattle.plans.specs.Reading.{mistaken, going, place, setAt, store, added, say, firstOf, isSaid, beginNamed, behindName, lacksCall, planning, allSaid, nothingYet, partWord, nameWord, teWord, bitWord, listed, oneOf, readWord, modesOf, recordOf, recordMistake, withHome, finishEnd, finishLine, between, scanAfter, beginsWord, readByte, noPlan, fresh, answer, finished, readText, bitPlace, marked, octetAt, octetsIn, afterTe, callNotHad};
-ghost use Rattle.plans.specs.Plain.{functionText, endText, entryFront, octetsText, bitsText, callerText, calledText, headText, teText, plain};
+ghost use Rattle.plans.specs.Reading.{mistaken, going, place, setAt, store, added, say, firstOf, isSaid, beginNamed, behindName, lacksCall, planning, cadenced, allSaid, nothingYet, partWord, nameWord, isOn, numberWord, listed, oneOf, readWord, modesOf, recordOf, recordMistake, withHome, finishEnd, finishLine, between, scanAfter, beginsWord, readByte, noPlan, fresh, answer, finished, readText, bitPlace, marked, octetAt, octetsIn, callNotHad, defaultOn, defaultOff};
+ghost use Rattle.plans.specs.Plain.{functionText, endText, entryFront, octetsText, bitsText, callerText, calledText, headText, teText, cadenceText, plain};
 ghost use Rattle.plans.specs.Inner.{Writes, homeText, frontOf, pieceText, Front, frontText, lacking, bitAt};
+ghost use Rattle.cadence.specs.Cadence.{isCadence};
 ghost use Rattle.steps.specs.Session.{defaultTe};
 
 // How long a call is rehearsed, in bits of 300 a second: 30 seconds.
@@ -83,8 +85,16 @@ pub const OCTETS: u8 = 21;
 // The mistake that a CM is given, and something else is said of the caller or of the call.
 pub const SENDS_ALONE: u8 = 22;
 
+// Behind `cadence`: how many sequences an on period has, and behind that how many bit times an off period has.
+pub const AFTER_CADENCE: u8 = 23;
+
+pub const AFTER_ON: u8 = 24;
+
 // The number of the names behind which octets stand, of the line for blocks and of the part for a CM: names have numbers below 16.
 const OCTETS_BEHIND: u8 = 8;
+
+// The number of the name behind which a cadence stands.
+const CADENCE_BEHIND: u8 = 9;
 
 // In place of a function: the caller's record is not known, and the text gives its CM.
 pub const STRANGER: u8 = 7;
@@ -148,19 +158,26 @@ const NOWHERE: usize = 18446744073709551615;
 // Te of a start without a value.
 const DEFAULT_TE: u16 = steps::DEFAULT_TE as u16;
 
+// The cadence of a text that gives none: sequences on, half a second, and bit times off, one and a half.
+const DEFAULT_ON: u8 = 5;
+
+const DEFAULT_OFF: u16 = 450;
+
 // How many bits both ends have in a rehearsal.
 const BITS_OF_BOTH: usize = 2 * BIT_TIMES;
 
 // How many damaged bits or octets the plain form has in a line.
 const ENTRIES_A_LINE: usize = 16;
 
-// A call: what is said of both ends, the function of the caller or STRANGER, and Te. Of each end there are eight sets, the caller's
+// A call: what is said of both ends, the function of the caller or STRANGER, Te, and how many sequences CI is on and bit times off. Of each end there are eight sets, the caller's
 // first: what it wants and what its line is; each function's modes, with 0 in the set where the end has it; and last, as a number, its
 // home function.
 pub struct Plan {
     pub sets: [u16; 16],
     pub function: u8,
     pub te: u16,
+    pub on: u8,
+    pub off: u16,
 }
 
 // A plan; or, where `what` is not 0, the first mistake of a text and its place.
@@ -383,6 +400,7 @@ fn is_said(plan: Plan, number: u8) -> bool
         AFTER_TE => 0 < plan.te,
         AFTER_DAMAGED => false,
         OCTETS_BEHIND => false,
+        CADENCE_BEHIND => 0 < plan.on,
         steps::CALLER => plan.function == STRANGER || 0 < set_at(plan, number, HOME),
         _ => 0 < set_at(plan, number, HOME),
     }
@@ -412,6 +430,7 @@ fn behind_name(name: u8) -> u8
 {
     match name {
         OCTETS_BEHIND => FIRST_OCTET,
+        CADENCE_BEHIND => AFTER_CADENCE,
         _ => name,
     }
 }
@@ -446,6 +465,23 @@ fn planning(r: Reading, function: u8, te: u16, context: u8) -> Reading
         first: r.first,
         context: context,
         what: call_mistake(plan, r.what),
+    }
+}
+
+// A cadence, as far as it is said, and what may come next.
+fn cadenced(r: Reading, on: u8, off: u16, context: u8) -> Reading
+    ensures { λ next. ⌜ next ≡ cadenced r on off context ⌝ }
+{
+    let mut plan = r.plan;
+    plan.on = on;
+    plan.off = off;
+    Reading {
+        plan: plan,
+        end: r.end,
+        function: r.function,
+        first: r.first,
+        context: context,
+        what: r.what,
     }
 }
 
@@ -522,17 +558,46 @@ fn listed(r: Reading, last: u32, n: u32, context: u8) -> Reading
     going(r, context, r.what)
 }
 
-// A number where one is asked for: Te, or the time of a bit.
-fn number_word(r: Reading, n: u32) -> Reading
-    ensures { λ next. ⌜ next ≡ when (eqb (r .context) afterTe) (teWord r n) (bitWord r n) ⌝ }
+// Whether an on period may have so many sequences: with an off period that may be.
+fn is_on(n: u32) -> bool
+    ensures { λ r. ⌜ r ≡ isOn n ⌝ }
 {
-    if r.context == AFTER_TE {
-        if steps::is_te(n) {
-            return planning(r, r.plan.function, n as u16, DONE);
+    n < 256 && cadence::is_cadence(n as u8, DEFAULT_OFF)
+}
+
+// Whether an off period of so many bit times may stand behind this on period.
+fn is_off(on: u8, n: u32) -> bool
+    ensures { λ r. ⌜ r ≡ isCadence on n ⌝ }
+{
+    n < 65536 && cadence::is_cadence(on, n as u16)
+}
+
+// A number where one is asked for: Te, the two of a cadence, or the time of a bit.
+fn number_word(r: Reading, n: u32) -> Reading
+    ensures { λ next. ⌜ next ≡ numberWord r n ⌝ }
+{
+    let context = r.context;
+    match context {
+        AFTER_TE => {
+            if steps::is_te(n) {
+                return planning(r, r.plan.function, n as u16, DONE);
+            }
+            going(r, context, context)
         }
-        return going(r, r.context, AFTER_TE);
+        AFTER_CADENCE => {
+            if is_on(n) {
+                return cadenced(r, n as u8, r.plan.off, AFTER_ON);
+            }
+            going(r, context, context)
+        }
+        AFTER_ON => {
+            if is_off(r.plan.on, n) {
+                return cadenced(r, r.plan.on, n as u16, DONE);
+            }
+            going(r, context, context)
+        }
+        _ => listed(r, 8999, n, BITS),
     }
-    listed(r, 8999, n, BITS)
 }
 
 fn read_word(r: Reading, word: &[u8]) -> Reading
@@ -540,7 +605,8 @@ fn read_word(r: Reading, word: &[u8]) -> Reading
 {
     let context = r.context;
     match context {
-        AFTER_TE | FIRST_BIT => number_word(r, number(word)),
+        AFTER_TE | AFTER_CADENCE => number_word(r, number(word)),
+        FIRST_BIT | AFTER_ON => number_word(r, number(word)),
         BITS => number_word(r, number(word)),
         FIRST_OCTET => listed(r, 255, octet(word), OCTETS),
         OCTETS => listed(r, 255, octet(word), OCTETS),
@@ -668,6 +734,8 @@ fn begin() -> Reading
             sets: [0u16; 16],
             function: 0,
             te: 0,
+            on: 0,
+            off: 0,
         },
         end: 0,
         function: 0,
@@ -685,6 +753,8 @@ fn mistake(what: u8, at: usize) -> Answer
             sets: [0u16; 16],
             function: 0,
             te: 0,
+            on: 0,
+            off: 0,
         },
         what: what,
         at: at,
@@ -699,6 +769,25 @@ fn te_of(te: u16) -> u16
         return DEFAULT_TE;
     }
     te
+}
+
+// The on period of a plan that gives none, and the off period.
+fn on_of(on: u8) -> u8
+    ensures { λ r. ⌜ r ≡ when (eqb on 0) defaultOn on ⌝ }
+{
+    if on == 0 {
+        return DEFAULT_ON;
+    }
+    on
+}
+
+fn off_of(off: u16) -> u16
+    ensures { λ r. ⌜ r ≡ when (eqb off 0) defaultOff off ⌝ }
+{
+    if off == 0 {
+        return DEFAULT_OFF;
+    }
+    off
 }
 
 // The mistake of a text that was read to its end, or what it lacks, or 0.
@@ -731,6 +820,8 @@ fn finish(r: Reading, at: usize) -> Answer
     }
     let mut plan = last.plan;
     plan.te = te_of(plan.te);
+    plan.on = on_of(plan.on);
+    plan.off = off_of(plan.off);
     Answer {
         plan: plan,
         what: 0,
@@ -1130,7 +1221,7 @@ fn put_called(out: &mut [u8], at: usize, function: u8) -> usize
     names::put_names(out, n, names::FUNCTION, added(0, function))
 }
 
-// All that is said of the ends and of the call but Te.
+// All that is said of the ends and of the function called.
 fn put_head(out: &mut [u8], at: usize, plan: Plan, cm: &[u8]) -> usize
     ensures { λ r. ⌜ page (now (out .exit)) r ≡ typed (page (now (out .entry)) at) (headText plan (now (cm .entry))) ⌝ }
 {
@@ -1147,6 +1238,16 @@ fn put_te(out: &mut [u8], at: usize, te: u16) -> usize
     printing::put_decimal(out, n, te as u64)
 }
 
+// The line for the cadence.
+fn put_cadence(out: &mut [u8], at: usize, on: u8, off: u16) -> usize
+    ensures { λ r. ⌜ page (now (out .exit)) r ≡ typed (page (now (out .entry)) at) (cadenceText on off) ⌝ }
+{
+    let mut n = printing::put_text(out, at, b"\ncadence   ");
+    n = printing::put_decimal(out, n, on as u64);
+    n = printing::put_text(out, n, b" ");
+    printing::put_decimal(out, n, off as u64)
+}
+
 // A plan in its plain form: a text that is read as this plan, with every default written out.
 pub fn put_plan(
     out: &mut [u8],
@@ -1161,6 +1262,7 @@ pub fn put_plan(
     let times = BIT_TIMES * (BITS_OF_BOTH <= damaged.len()) as usize;
     let mut n = put_head(out, at, plan, cm);
     n = put_te(out, n, plan.te);
+    n = put_cadence(out, n, plan.on, plan.off);
     n = put_octets(out, n, BLOCKS_LINES, BLOCKS_BLANK, blocks);
     n = put_bits(out, n, 0, CALLER_BLANK, damaged, 0, times);
     n = put_bits(

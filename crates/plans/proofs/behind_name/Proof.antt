@@ -11,7 +11,11 @@ returns c = simp (c .match .keys1)
 
 returns-2 : tie.Need-returns-2
 unfolding when
-returns-2 c = simp (ne-eqb _ _ (c .match .rest .1))
+returns-2 c = simp (c .match .keys2)
+
+returns-3 : tie.Need-returns-3
+unfolding when
+returns-3 c = let none = c .match .rest in simp (ne-eqb _ _ (none .0 .1), ne-eqb _ _ (none .1))
 
 pub behind-name-spec : {M : Type 1} → statement M
-behind-name-spec = tie.close (tie.spec returns returns-2)
+behind-name-spec = tie.close (tie.spec returns returns-2 returns-3)

@@ -1,9 +1,7 @@
 -- `plans::finish` meets its contract: the last line is finished, then what is missing is asked for.
 -- Assumes nothing.
 use borrow.Author.Needs.{needs}
-use mathlib.Core.Path.{sym, ap, _∙_}
-use Prim.Native.Nat.{ℕ}
-use Rattle.plans.specs.Reading.{planned, answer}
+use mathlib.Core.Path.{sym, _∙_}
 use Rattle.plans.proofs.Cases.{finish-wrong, finish-right}
 use Rattle.plans.proofs.finish.Statement.{statement}
 use Rattle.plans.proofs.finish.Tie as tie
@@ -25,12 +23,17 @@ returns c =
 te-of-requires : tie.Need-te-of-requires
 te-of-requires c κs = search needs
 
+on-of-requires : tie.Need-on-of-requires
+on-of-requires c κs = search needs
+
+off-of-requires : tie.Need-off-of-requires
+off-of-requires c κs = search needs
+
 returns-2 : tie.Need-returns-2
 returns-2 c =
-    let start = c .before .before .before .before .before in
-    let plan = c .before .before .before .before .finish-line .result .plan in
-    ap (λ (te : ℕ). answer (planned (plan .sets) (plan .function) te) 0 (start .args .at)) (c .te-of .ensures)
-    ∙ sym (finish-right (start .args .r) _ _ (start .args .at) (c .before .before .before .before .finish-line .ensures) (c .before .before .before .lacking .ensures) (c .before .before .if1 .left))
+    let start = c .before .before .before .before .before .before .before in
+    simp (c .before .before .te-of .ensures, c .before .on-of .ensures, c .off-of .ensures)
+    (sym (finish-right (start .args .r) _ _ (start .args .at) (c .before .before .before .before .before .before .finish-line .ensures) (c .before .before .before .before .before .lacking .ensures) (c .before .before .before .before .if1 .left)))
 
 pub finish-spec : {M : Type 1} → statement M
 finish-spec =
@@ -41,4 +44,6 @@ finish-spec =
     mistake-requires
     returns
     te-of-requires
+    on-of-requires
+    off-of-requires
     returns-2)

@@ -20,6 +20,12 @@ number-requires-2 c κs = search needs
 number-word-requires-2 : tie.Need-number-word-requires-2
 number-word-requires-2 c κs = search needs
 
+number-requires-3 : tie.Need-number-requires-3
+number-requires-3 c κs = search needs
+
+number-word-requires-3 : tie.Need-number-word-requires-3
+number-word-requires-3 c κs = search needs
+
 octet-requires : tie.Need-octet-requires
 octet-requires c κs = search needs
 
@@ -46,23 +52,28 @@ returns c =
 returns-2 : tie.Need-returns-2
 returns-2 c =
     let args = c .before .before .before .before .args in
-    c .number-word2 .ensures ∙ sym (number-asked (args .r) (now (args .word)) _ (c .before .number2 .ensures) (inr (c .before .before .match .keys2)))
+    c .number-word2 .ensures ∙ sym (number-asked (args .r) (now (args .word)) _ (c .before .number2 .ensures) (inr (inl (c .before .before .match .keys2))))
 
 returns-3 : tie.Need-returns-3
 returns-3 c =
     let args = c .before .before .before .before .args in
-    c .listed .ensures ∙ sym (octet-asked (args .r) (now (args .word)) _ (c .before .octet .ensures) (inl (c .before .before .match .keys3)))
+    c .number-word3 .ensures ∙ sym (number-asked (args .r) (now (args .word)) _ (c .before .number3 .ensures) (inr (inr (c .before .before .match .keys3))))
 
 returns-4 : tie.Need-returns-4
 returns-4 c =
     let args = c .before .before .before .before .args in
-    c .listed2 .ensures ∙ sym (octet-asked (args .r) (now (args .word)) _ (c .before .octet2 .ensures) (inr (c .before .before .match .keys4)))
+    c .listed .ensures ∙ sym (octet-asked (args .r) (now (args .word)) _ (c .before .octet .ensures) (inl (c .before .before .match .keys4)))
 
 returns-5 : tie.Need-returns-5
 returns-5 c =
     let args = c .before .before .before .before .args in
+    c .listed2 .ensures ∙ sym (octet-asked (args .r) (now (args .word)) _ (c .before .octet2 .ensures) (inr (c .before .before .match .keys5)))
+
+returns-6 : tie.Need-returns-6
+returns-6 c =
+    let args = c .before .before .before .before .args in
     let none = c .before .before .match .rest in
-    c .name-word .ensures ∙ sym (name-asked (args .r) (now (args .word)) _ (c .before .named .ensures) (none .0 .0 .0 .1) (none .0 .0 .1) (none .0 .1) (none .1))
+    c .name-word .ensures ∙ sym (name-asked (args .r) (now (args .word)) _ (c .before .named .ensures) (none .0 .0 .0 .0 .1) (none .0 .0 .0 .1) (none .0 .0 .1) (none .0 .1) (none .1))
 
 pub read-word-spec : {M : Type 1} → statement M
 read-word-spec =
@@ -72,6 +83,8 @@ read-word-spec =
     number-word-requires
     number-requires-2
     number-word-requires-2
+    number-requires-3
+    number-word-requires-3
     octet-requires
     listed-requires
     octet-requires-2
@@ -82,4 +95,5 @@ read-word-spec =
     returns-2
     returns-3
     returns-4
-    returns-5)
+    returns-5
+    returns-6)
