@@ -79,7 +79,7 @@ fn put_octets(text: Text, apart: usize, octets: &[u8]) -> Text {
 }
 
 // What a menu offers; nothing where it cannot be read.
-fn offer_in(octets: &[u8]) -> Offer {
+pub fn offer_in(octets: &[u8]) -> Offer {
     let menu = menus::read(octets);
     match menu {
         ReadMenu::Offers(offer) => offer,
@@ -232,7 +232,7 @@ fn put_outcome(text: Text, group: u8, number: u8, session: Session) -> Text {
     }
 }
 
-// A state is entered: what the end sends there, or how its session ended.
+// A state is entered: what the end sends there, or how its session ended. Of calling nothing is told here: it begins with an on period.
 pub fn entered(line: Line, now: u32) {
     let session = line.session;
     let menu = line.menu;
@@ -245,6 +245,13 @@ pub fn entered(line: Line, now: u32) {
         _ => put_outcome(blank(), words::SENDS, number, session),
     };
     tell(now, session.end, state, text);
+}
+
+// An on period begins: the CI that is sent in it.
+pub fn calls(session: Session, now: u32) {
+    let octet = octets::category_octet(octets::CALL_FUNCTION, session.cadence.function);
+    let text = menu_text(words::HEARD + line::CI, &[octet]);
+    tell(now, session.end, steps::CALLING, text);
 }
 
 // A choice is made, by a menu that was heard.

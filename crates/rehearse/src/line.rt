@@ -32,7 +32,7 @@ pub struct Made {
 }
 
 // What a host keeps for each line: what is planned; the CM or JM of this end; one copy of it, CJ and a 1, a byte for each bit; how many bits the
-// copy has, and how many of what is sent are on the line; the bit that is sent now; the last report.
+// copy has, and how many of what is sent are on the line; the bit that is sent now, or silence; the last report, and the octet of a CI that it told.
 pub struct Line {
     pub plan: Plan,
     pub session: Session,
@@ -43,6 +43,7 @@ pub struct Line {
     pub sent: usize,
     pub bit: u8,
     pub told: u8,
+    pub ci: u8,
 }
 
 // No end has this event: nothing happened.
@@ -58,6 +59,9 @@ pub const MENU: u8 = 2;
 pub const AGREED: u8 = 3;
 
 pub const CJ: u8 = 4;
+
+// No CI has this octet.
+const NO_CI: u8 = 0;
 
 // A CM that is not answered, with the number of the refusal; no report has a number from here on.
 const NOT_ANSWERED: u8 = 32;
@@ -82,6 +86,7 @@ pub fn line_start(session: Session, plan: Plan) -> Line {
         sent: 0,
         bit: 1,
         told: NOTHING,
+        ci: NO_CI,
     }
 }
 
@@ -118,18 +123,17 @@ pub fn with_menu(line: Line, menu: Made) -> Line {
     next
 }
 
-// An event, with its time. A state that is entered is told.
+// An event, with its time. A state that is entered is told. Where none is, the session is kept too: it may remember a tone.
 fn line_step(line: Line, event: u8, value: u8, now: u32) -> Line {
     let session = line.session;
     let stepped = steps::step(session, event, value, now);
     let answer = stepped.answer;
     let after = stepped.session;
-    if codes::step_code(answer) <= 0 {
-        return line;
-    }
     let mut next = line;
     next.session = after;
-    ladder::entered(next, now);
+    if 0 < codes::step_code(answer) {
+        ladder::entered(next, now);
+    }
     next
 }
 
@@ -175,8 +179,35 @@ fn place_behind(at: usize, len: usize) -> usize {
     next % MOST_BITS
 }
 
-// The next bit to the line. A menu is sent until the state changes, CJ once.
+// The next bit of the cadence, or silence. An on period is told with its first bit.
+fn cadence_bit(line: Line, now: u32) -> Line {
+    let session = line.session;
+    let place = session.cadence.place;
+    let mut bits = [cadence::SILENCE; 1];
+    let drawn = steps::draw(session, &mut bits);
+    let after = drawn.session;
+    let bit = bits[0];
+    let mut next = line;
+    next.session = after;
+    next.bit = bit;
+    if place == 0 && bit != cadence::SILENCE {
+        ladder::calls(session, now);
+    }
+    next
+}
+
+// The next bit to the line.
 pub fn line_bit(line: Line, now: u32) -> Line {
+    let session = line.session;
+    let state = session.state;
+    match state {
+        steps::CALLING => cadence_bit(line, now),
+        _ => copy_bit(line, now),
+    }
+}
+
+// The next bit outside calling. A menu is sent until the state changes, CJ once.
+fn copy_bit(line: Line, now: u32) -> Line {
     let session = line.session;
     let bits = line.bits;
     let at = place_of(session.state, line.sent);
@@ -239,14 +270,31 @@ fn hear_jm(line: Line, jm: &[u8], now: u32) -> Line {
     line_chosen(line, steps::AGREED_JM, choice, now)
 }
 
-// A report that nothing waits for: not told where it repeats the one before. A CI or a menu that is not agreed is another each time.
+// The octet of a CI; one with more octets is another each time.
+fn ci_octet(told: u8, heard: &[u8]) -> u8 {
+    if told != CI {
+        return NO_CI;
+    }
+    if heard.len() == 1 {
+        return heard[0];
+    }
+    NO_CI
+}
+
+// Whether a report is the one before: a CI with the same octet, or any other but a menu that is not agreed.
+fn is_again(line: Line, told: u8, ci: u8) -> bool {
+    told == line.told && (told != CI || (ci == line.ci && ci != NO_CI))
+}
+
+// A report that nothing waits for: not told where it repeats the one before. A menu that is not agreed is another each time.
 fn line_told(line: Line, told: u8, heard: &[u8], now: u32) -> Line {
-    if told != line.told {
+    let ci = ci_octet(told, heard);
+    if !is_again(line, told, ci) {
         ladder::heard(line.session, told, heard, now);
     }
     let mut next = line;
+    next.ci = ci;
     next.told = match told {
-        CI => NOTHING,
         MENU => NOTHING,
         _ => told,
     };
@@ -295,11 +343,17 @@ fn octets_in(octets: &[u8; MOST_OCTETS], len: u8, told: u8) -> &[u8] {
     menu_part(octets, count as usize)
 }
 
-// A bit from the line. An end that is over hears nothing: its line is in another modulation, or cleared.
+// A bit from the line, or silence, which the listener does not get; what it reports behind that is told anew. An end that is over hears
+// nothing: its line is in another modulation, or cleared.
 pub fn line_hear(line: Line, bit: u8, now: u32) -> Line {
     let session = line.session;
     if session.state == steps::OVER {
         return line;
+    }
+    if bit == cadence::SILENCE {
+        let mut parted = line;
+        parted.told = NOTHING;
+        return parted;
     }
     let heard = listening::hear(line.ear, bit);
     let report = heard.report;

@@ -1,5 +1,5 @@
 // Rehearses a call: reads a call text, runs both ends over a line of 300 bit/s, and prints the plan as it was understood and a ladder
-// of the call: when each end enters which state, what it sends and hears, and what it goes on with. What is wrong with a text, with its
+// of the call: when each end enters which state, what it sends and hears, and what it goes on with; CI once for each on period. What is wrong with a text, with its
 // blocks or with a CM that it gives is told in one line, and nothing is rehearsed; where there is no text, what one looks like.
 mod ladder;
 mod line;
@@ -38,11 +38,14 @@ const MOST_SHOWN: usize = 40;
 // Room for a CM that is given: one octet more than a menu has, so that of a longer one too many are kept.
 const MOST_GIVEN: usize = MOST_OCTETS + 1;
 
+// The function data.
+const DATA: u8 = 6;
+
 // How many bits both ends send.
 const LINE_BITS: usize = 2 * plans::BIT_TIMES;
 
 // How many lines say what a call text looks like.
-const HELP_LINES: u8 = 25;
+const HELP_LINES: u8 = 27;
 
 // Room, with a promise of its length: where a large array is made, its length takes long to prove.
 fn room() -> [u8; ROOM]
@@ -58,9 +61,9 @@ fn undamaged() -> [u8; LINE_BITS]
     [0u8; LINE_BITS]
 }
 
-// A bit as it arrives: inverted where it is damaged.
+// A bit as it arrives: inverted where it is damaged. Silence is no bit, and damage changes nothing of it.
 fn arriving(bit: u8, damaged: &[u8], place: usize) -> u8 {
-    if place < damaged.len() {
+    if bit != cadence::SILENCE && place < damaged.len() {
         return bit ^ damaged[place];
     }
     bit
@@ -136,18 +139,34 @@ fn put_plan(plan: Plan, cm: &[u8], blocks: &[u8], damaged: &[u8]) {
     io::write_all(STDOUT_FILENO, line::part(&page, n));
 }
 
-// The plan, and the ladder of its call with this CM. A plan has a Te that a caller starts with.
+// The function that CI names: that of CM, or data where a stranger's CM calls for none of the six.
+fn called(cm: &[u8]) -> u8 {
+    let offer = ladder::offer_in(cm);
+    if cadence::is_function(offer.function) {
+        return offer.function;
+    }
+    DATA
+}
+
+// The ladder of a plan: it has a Te and a cadence that a caller starts with.
+fn put_started(plan: Plan, cm: Made, damaged: &[u8]) {
+    let octets = cm.octets;
+    let function = called(line::menu_part(&octets, cm.len));
+    let started = steps::start_caller(0, plan.te as u32, function, plan.on, plan.off);
+    match started {
+        Started::Ready(first) => put_ladder(plan, first, cm, damaged),
+        Started::Refused(_) => {}
+    }
+}
+
+// The plan, and the ladder of its call with this CM.
 fn put_call(text: &[u8], plan: Plan, blocks: &[u8], cm: Made) {
     let mut damaged = undamaged();
     plans::mark(text, &mut damaged);
     let octets = cm.octets;
     put_plan(plan, line::menu_part(&octets, cm.len), blocks, &damaged);
     say(blank());
-    let started = steps::start_caller(0, plan.te as u32);
-    match started {
-        Started::Ready(first) => put_ladder(plan, first, cm, &damaged),
-        Started::Refused(_) => {}
-    }
+    put_started(plan, cm, &damaged);
 }
 
 // Why there is no CM for a plan: its blocks do not fit, or its octets are no blocks.
