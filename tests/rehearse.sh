@@ -3,7 +3,7 @@
 # with NAME.timeline, as a file and through a pipe in pieces of odd sizes, and does the same with the plan that stands above
 # each ladder; then on the same call in other words; then on texts that are wrong, each with the one line that it must get;
 # then on calls with blocks, which the answerer tells in words, or which get one line; then on calls of strangers, whose CM
-# is sent as it is given, or gets one line; then on random plans, on every call cut off at every byte and on random bytes,
+# is sent as it is given, or gets one line; then on calls whose CI is damaged or names another function; then on random plans, on every call cut off at every byte and on random bytes,
 # which must get a plan and a ladder or one line, and an end of the program that is no crash. Prints what differs; exits
 # with 1 on a difference and with 2 where there is nothing to run.
 set -uo pipefail
@@ -16,7 +16,7 @@ pieces=(1 7 2 31 1 64 10)
 heading='   ms  caller                                                                         answerer'
 
 # The names, as the texts list them.
-lines='caller answerer call Te damaged blocks'
+lines='caller answerer call Te damaged blocks cadence'
 functions='H.324 textphone videotex fax-sent fax-received data'
 modes='V.34 V.34-half-duplex V.32bis V.22bis V.17 V.29-half-duplex V.27ter V.26ter V.26bis V.23 V.23-half-duplex V.21'
 modes+=' PCM-analogue PCM-digital V.91'
@@ -51,6 +51,8 @@ mistakes=(
     'expected an octet, two hex digits'
     'expected an octet, two hex digits'
     'a CM that is sent as it is stands alone in the line of the caller, and no function is called'
+    'expected how many CI sequences an on period has, a number from 3 to 20'
+    'expected how many bit times an off period has, a number from 120 to 600'
 )
 
 # Why CM cannot be made with the blocks of a plan.
@@ -116,11 +118,11 @@ sends() {
     text "$answerer\ncaller sends $2"
     "$program" <"$work/input" >"$work/first"
     status=$?
-    printf 'caller    sends %s\nanswerer  data V.32bis V.22bis V.26ter, home data\nTe        1000\n' "${2^^}" >"$work/expected"
+    printf 'caller    sends %s\nanswerer  data V.32bis V.22bis V.26ter, home data\nTe        1000\ncadence   5 450\n' "${2^^}" >"$work/expected"
     plan <"$work/first" >"$work/printed"
     compare "$1" "$work/expected" "$status"
     printf '%s\n' "$3" >"$work/expected"
-    sed -n 's/^ 2000  menu        \(CM[^-]*[^ -]\) *-*>*$/\1/p' "$work/first" >"$work/printed"
+    sed -n 's/^ 2300  menu        \(CM[^-]*[^ -]\) *-*>*$/\1/p' "$work/first" >"$work/printed"
     compare "$1, as it is sent" "$work/expected" 0
 }
 
@@ -135,6 +137,15 @@ tells() {
         below && / (block [0-9]+:|its field )/ { field = 1 }
         below && field { if (length($0) > 85) print "a row of " length($0) " columns"; sub(/^ */, ""); print }
     ' >"$work/printed"
+    compare "$1" "$work/expected" "${PIPESTATUS[0]}"
+}
+
+# calls NAME TEXT ROW..: a call, and what its ladder must say of CI, sent and heard: the words of its rows.
+calls() {
+    local row
+    text "$2"
+    for row in "${@:3}"; do printf '%s\n' "$row"; done >"$work/expected"
+    "$program" <"$work/input" | sed -nE '/ CI /{s/^ *[0-9]+ +//;s/ -+>$//;s/ +/ /g;p}' >"$work/printed"
     compare "$1" "$work/expected" "${PIPESTATUS[0]}"
 }
 
@@ -170,6 +181,7 @@ sound() {
             if (!stranger && line[3] !~ /^call      /) return wrong("no call: " line[3])
             i = stranger ? 3 : 4
             if (line[i] !~ /^Te        [0-9]+$/) return wrong("no Te: " line[i])
+            if (line[++i] !~ /^cadence   [0-9]+ [0-9]+$/) return wrong("no cadence: " line[i])
             for (i++; line[i] ~ /^blocks   ( [0-9A-F][0-9A-F])+$/; i++) ;
             for (; line[i] ~ /^damaged   (caller|answerer)( [0-9]+)+$/; i++) ;
             if (line[i] != "" || line[i + 1] != heading) return wrong("no heading: " line[i])
@@ -219,17 +231,24 @@ same 'Te written out' "${whole}Te 1000\n"
 same 'Te with leading zeros' "Te 001000\n$whole"
 same 'other names of modes' "${caller//bis/}\nanswerer data V.32 V.22 V.26ter\ncall data"
 text "damaged answerer 0\n${whole}damaged caller 8999, 0\nDamaged Answerer 00 0\n"
-sed '/^Te/a damaged   caller 0 8999\ndamaged   answerer 0' "$calls/v32bis.timeline" >"$work/expected"
+sed '/^cadence/a damaged   caller 0 8999\ndamaged   answerer 0' "$calls/v32bis.timeline" >"$work/expected"
 check "$program" 'damage that hits no bit that counts' "$work/input" "$work/expected" "${pieces[@]}"
 
-# A Te that a line gives is kept: with 500 for 1,000, CM and all that follows come half a second sooner.
+# The caller is quiet from 1,300 ms on. A Te that a line gives is kept: with 500 for 1,000, CM and all that follows come half a second sooner.
 text "${whole}Te 500\n"
 awk '
     /^Te / { sub(/1000/, "500") }
-    /^ *[0-9]+  / && $1 > 1000 { $0 = sprintf("%5d", $1 - 500) substr($0, 6) }
+    /^ *[0-9]+  / && $1 > 1300 { $0 = sprintf("%5d", $1 - 500) substr($0, 6) }
     { print }
 ' "$calls/v32bis.timeline" >"$work/expected"
 check "$program" 'a Te of 500 that is given' "$work/input" "$work/expected" "${pieces[@]}"
+
+# ANSam is heard before the caller calls, so it sends three sequences of CI, whatever its cadence is: the same ladder below another plan.
+for cadence in '3 120' '20 600' '5 600' '20 450'; do
+    text "cadence $cadence\n$whole"
+    sed "s/^cadence .*/cadence   $cadence/" "$calls/v32bis.timeline" >"$work/expected"
+    check "$program" "a cadence of $cadence" "$work/input" "$work/expected" "${pieces[@]}"
+done
 
 every_function=''
 for function in $functions; do
@@ -239,9 +258,9 @@ tail=' home fax-sent, wants LAPM, wants access, cellular digital'
 reversed=' digital cellular wants access wants LAPM home fax-sent'
 understood 'every name, in upper and in lower case' \
     "CALLER${every_function^^}${tail^^}\nanswerer$reversed${every_function,,}\ncall textphone\nTe 5000" \
-    "caller   $every_function$tail\nanswerer $every_function$tail\ncall      textphone\nTe        5000"
+    "caller   $every_function$tail\nanswerer $every_function$tail\ncall      textphone\nTe        5000\ncadence   5 450"
 understood 'the first function is the home function' "answerer videotex, H.324\ncaller data, textphone V.21\ncall textphone" \
-    'caller    textphone V.21, data, home data\nanswerer  H.324, videotex, home videotex\ncall      textphone\nTe        1000'
+    'caller    textphone V.21, data, home data\nanswerer  H.324, videotex, home videotex\ncall      textphone\nTe        1000\ncadence   5 450'
 understood 'sixteen damaged bits in a line' "damaged caller $(seq -s ' ' 17 -1 1)\n${whole}damaged answerer $(seq -s ' ' 16)" \
     "$(plan <"$calls/v32bis.timeline")\ndamaged   caller $(seq -s ' ' 16)\ndamaged   caller 17\ndamaged   answerer $(seq -s ' ' 16)"
 understood 'octets in upper and lower case, in lines that stand anywhere' \
@@ -259,6 +278,7 @@ done
 
 tried=()
 refuses 'an unknown line' "$caller\ncalled data\n" "line 2, 'called'" 1
+refuses 'on without its line' 'on 5' "line 1, 'on'" 1
 refuses 'a function before its end' 'data V.34' "line 1, 'data'" 1
 refuses 'home before its end' "\n\nhome" "line 3, 'home'" 1
 refuses 'a name of an access group at the front' 'caller-cellular' "line 1, 'caller-cellular'" 1
@@ -305,10 +325,12 @@ refuses 'a range of bits' 'damaged answerer 1 .. 5' "line 1, '..'" 9
 refuses 'two functions called' "$caller\ncall data data" "line 2, 'data'" 10
 refuses 'a modulation called' "call data V.34\n" "line 1, 'V.34'" 10
 refuses 'two times of Te' 'Te 500, 501' "line 1, '501'" 10
+refuses 'three numbers of a cadence' 'cadence 5 450 5' "line 1, '5'" 10
 refuses 'a second caller' "$whole$caller\n" "line 4, 'caller'" 11
 refuses 'a second answerer' "$answerer\n\nANSWERER" "line 3, 'ANSWERER'" 11
 refuses 'a second call' "call data\ncall data\n" "line 2, 'call'" 11
 refuses 'a second Te' "Te 500\n${whole}Te 500" "line 5, 'Te'" 11
+refuses 'a second cadence' "Cadence 5 450\n${whole}cadence 5 450" "line 5, 'cadence'" 11
 refuses 'a function twice' "caller data V.34, videotex, DATA V.21" "line 1, 'DATA'" 11
 refuses 'a modulation twice' 'caller data V.34 V.21 v.34' "line 1, 'v.34'" 11
 refuses 'a modulation by both names' 'caller data V.32bis V.32' "line 1, 'V.32'" 11
@@ -366,6 +388,19 @@ refuses 'a CM and no answerer' 'caller sends C1 45' '' 17
 refuses 'a name behind octets' 'blocks 05 b5 data' "line 1, 'data'" 21
 refuses 'a number behind octets' "blocks 05\nblocks 05 500" "line 2, '500'" 21
 refuses 'a sign behind octets' 'blocks 05, -5' "line 1, '-5'" 21
+refuses 'a cadence in words' 'cadence on 5 off 450' "line 1, 'on'" 23
+refuses 'two sequences on' "$caller\ncadence 2 450" "line 2, '2'" 23
+refuses 'twenty-one sequences on' 'cadence 21 450' "line 1, '21'" 23
+refuses '261 sequences on, which is 5 in a byte' 'cadence 261 450' "line 1, '261'" 23
+refuses 'an on period that is far too long' 'cadence 4294967301 450' "line 1, '4294967301'" 23
+refuses 'cadence at the end of a line' "cadence\n5 450" 'line 1, at its end' 23
+refuses 'cadence at the end of the text' "${whole}cadence # 5 450" 'line 4, at its end' 23
+refuses '119 bit times off' 'cadence 5 119' "line 1, '119'" 24
+refuses '601 bit times off' 'cadence 3, 601' "line 1, '601'" 24
+refuses '65986 bit times off, which are 450 in 16 bits' 'cadence 5 65986' "line 1, '65986'" 24
+refuses 'an off period with its unit' 'cadence 5 450ms' "line 1, '450ms'" 24
+refuses 'an on period alone' "cadence 5\n$whole" 'line 1, at its end' 24
+refuses 'an on period alone at the end of the text' "${whole}cadence 5," 'line 4, at its end' 24
 refuses 'the first of two wrong lines' "call x\nTe y\n" "line 1, 'x'" 5
 refuses 'the first of two wrong words' 'caller data V.90 LAPM' "line 1, 'V.90'" 2
 refuses 'a word, then what is wrong with the end' 'answerer data PCM-digital V.90' "line 1, 'V.90'" 2
@@ -373,8 +408,8 @@ refuses 'a home function, then PCM' 'caller data PCM-digital home H.324' 'line 1
 refuses 'PCM, then the function of the call' "call videotex\ncaller data PCM-digital\n" 'line 2, at its end' 15
 refuses 'a wrong line before what is missing' "$caller\nTe 400" "line 2, '400'" 6
 refuses 'the function of the call, then what is missing' "$caller\ncall H.324" "line 2, 'H.324'" 19
-if [ "${#tried[@]}" -ne 22 ]; then
-    printf 'mistakes that no text is tried for: %s of 22 are\n' "${#tried[@]}"
+if [ "${#tried[@]}" -ne 24 ]; then
+    printf 'mistakes that no text is tried for: %s of 24 are\n' "${#tried[@]}"
     differ=$((differ + 1))
 fi
 
@@ -401,7 +436,7 @@ check "$program" '36 octets behind every group' "$work/input" "$work/expected" "
 # The CM of v32bis.call as a stranger sends it: the same ladder, below another plan. The lines come in any order, words in any letters.
 strangers='C1 45 13 90 2A'
 sed -e "s/^caller    .*/caller    sends $strangers/" -e '/^call /d' "$calls/v32bis.timeline" >"$work/strangers"
-for said in "caller sends $strangers\n$answerer" "Te 1000\n$answerer\n# a stranger\nCALLER, SENDS ${strangers,,}" \
+for said in "caller sends $strangers\n$answerer" "Te 1000\nCADENCE 05,0450\n$answerer\n# a stranger\nCALLER, SENDS ${strangers,,}" \
     "$answerer\n\tcaller\tSends  ${strangers// /,} # 00\r\n"; do
     text "$said"
     check "$program" 'the CM of a record, as a stranger sends it' "$work/input" "$work/strangers" "${pieces[@]}"
@@ -411,7 +446,7 @@ sends 'a CM for a function that the answerer has not' '21 45' 'CM H.324: V.34  2
 sends 'no function has the number of this one' 'E1 05' 'CM  E1 05'
 sends 'more than sixteen octets are in one line' "C1 05 10 10 $(printf '2A %.0s' {1..20})0D" 'CM data, LAPM, access  C1 05 10 10 2A 2A 2A 2A 2A 2A 2A 2A 2A'
 understood '64 octets' "$answerer\ncaller sends C1$(printf ' 2A%.0s' {1..63})" \
-    "caller    sends C1$(printf ' 2A%.0s' {1..63})\nanswerer  data V.32bis V.22bis V.26ter, home data\nTe        1000"
+    "caller    sends C1$(printf ' 2A%.0s' {1..63})\nanswerer  data V.32bis V.22bis V.26ter, home data\nTe        1000\ncadence   5 450"
 unsendable '65 octets' "C1$(printf ' 2A%.0s' {1..64})" "$unsent 4"
 unsendable '256 octets, the first of which is no call function' "$every_octet" "$unsent 4"
 unsendable 'no call function' '45' "$unsent 5"
@@ -437,14 +472,27 @@ tells 'a field that takes several rows' "blocks 23 B5 00 ${every_octet:195:98}\n
     'block 1: country B5, no provider code, rest 41 42 43 44 45 46' '47 48 49 4A 4B 4C 4D 4E 4F 50 51 52 53 54 55 56 57 58 59 5A 5B' \
     '5C 5D 5E 5F 60 61 "ABCDEFGHIJKLMNOPQRSTUVWXYZ[\]^_`a"'
 tells 'ten blocks' "blocks $(printf '02 B5 00 %.0s' {1..10})\nTe 500" "$(printf 'block %s: country B5, no provider code, no rest\n' {1..10})"
-# The first copy of CM begins with bit 600, and the octet of a number, from 0 on, with bit 620 + 10 * number: the call function has 0, the
+# The first copy of CM begins with bit 690, and the octet of a number, from 0 on, with bit 710 + 10 * number: the call function has 0, the
 # category octet of the field 5, its last octet, in which one bit is left over, 18.
-tells 'a block that is damaged' "$level\ndamaged caller 681" 'its field is refused with 14' "$level_told"
-tells 'a bit left over that is damaged' "$level\ndamaged caller 808" 'its field is refused with 15' "$level_told"
-tells 'an option that is damaged' "$level\ndamaged caller 678" 'its field is refused with 15' "$level_told"
-tells 'another tag by damage' "$level\ndamaged caller 671" "$level_told"
-tells 'no call function by damage' "$level\ndamaged caller 621" "$level_told"
-tells 'a level by damage' "$level\ndamaged caller 761" 'block 1: country B5, provider 00 41, rest 33 2E 37 "3.7"' "$level_told"
+tells 'a block that is damaged' "$level\ndamaged caller 771" 'its field is refused with 14' "$level_told"
+tells 'a bit left over that is damaged' "$level\ndamaged caller 898" 'its field is refused with 15' "$level_told"
+tells 'an option that is damaged' "$level\ndamaged caller 768" 'its field is refused with 15' "$level_told"
+tells 'another tag by damage' "$level\ndamaged caller 761" "$level_told"
+tells 'no call function by damage' "$level\ndamaged caller 711" "$level_told"
+tells 'a level by damage' "$level\ndamaged caller 851" 'block 1: country B5, provider 00 41, rest 33 2E 37 "3.7"' "$level_told"
+
+# The CI of a call begins with bit 300: ten 1s, the sync, and one octet, whose start bit is bit 20 of each sequence, and whose function stands
+# in the bits 26, 27 and 28. It is heard with the ten 1s behind it.
+calls 'CI names the function of the call' 'caller data, textphone V.21\nanswerer data\ncall textphone' \
+    'calling CI textphone 41' 'CI textphone 41 hears'
+calls 'CI names the function of a stranger' "caller sends 21 45\n$answerer" 'calling CI H.324 21' 'CI H.324 21 hears'
+calls 'CI names data for a stranger that calls for no function' "caller sends 01 45\n$answerer" 'calling CI data C1' 'CI data C1 hears'
+calls 'CI names data for a stranger whose function is none' "caller sends E1 45\n$answerer" 'calling CI data C1' 'CI data C1 hears'
+calls 'the first CI is damaged' "${whole}damaged caller 327" 'calling CI data C1' 'CI fax-sent 81 hears' 'CI data C1 hears'
+calls 'the second CI is damaged' "${whole}damaged caller 357" 'calling CI data C1' 'CI data C1 hears' 'CI fax-sent 81 hears' 'CI data C1 hears'
+calls 'each CI is damaged in the same way' "${whole}damaged caller 327 357 387" 'calling CI data C1' 'CI fax-sent 81 hears'
+calls 'the sync of each CI is damaged' "${whole}damaged caller 312 342 372" 'calling CI data C1'
+calls 'what is refused parts two CIs that are alike' "${whole}damaged caller 350" 'calling CI data C1' 'CI data C1 hears' 'CI data C1 hears'
 
 # No text gets the help, with every name in it.
 "$program" </dev/null >"$work/printed"
@@ -503,13 +551,14 @@ random_call() {
             }
             print end("answerer", 1 + below(6))
             if (below(2)) print "Te " 500 + below(4501)
+            if (below(2)) print "cadence " 3 + below(18) " " 120 + below(481)
             for (i = stranger ? 0 : below(4); i > 0; i--) {
                 provider = below(3); rest = below(5)
                 printf "blocks %02x %02X %02X", 2 + provider + rest, below(255), provider
                 for (j = provider + rest; j > 0; j--) printf(below(2) ? " %02X" : " %02x", below(2) ? 32 + below(95) : below(256))
                 print ""
             }
-            for (i = below(40); i > 0; i--) print "damaged " (below(2) ? "caller " : "answerer ") 600 + below(700)
+            for (i = below(40); i > 0; i--) print "damaged " (below(2) ? "caller " : "answerer ") 300 + below(1100)
         }'
 }
 for ((n = 1; n <= 100; n++)); do
@@ -538,7 +587,7 @@ random() {
     }' "$@"
 }
 mapfile -t bytes < <(LC_ALL=C awk 'BEGIN { for (i = 1; i < 256; i++) if (i != 10) printf "%c\n", i }')
-read -ra words <<<"$lines $functions $modes $other_modes $parts $wanted $qualities $access 500 0 8999 9000 02 b5 00 c1 45 # ,"
+read -ra words <<<"$lines $functions $modes $other_modes $parts $wanted $qualities $access 500 0 8999 9000 5 450 02 b5 00 c1 45 # ,"
 for ((n = 1; n <= 40; n++)); do
     random "$n" $((n * n * 31)) '' "${bytes[@]}" $'\n' >"$work/input"
     survives "random bytes, run $n"
@@ -546,7 +595,7 @@ for ((n = 1; n <= 40; n++)); do
     survives "random words, run $n"
     { printf 'answerer data\ncaller '; random "$n" $((1 + n / 4)) ' ' sends C1 c1 45 10 2A 18 $'\n' caller data; } >"$work/input"
     survives "random words of a stranger, run $n"
-    { printf '%b' "$whole"; random "$n" "$n" $'\n' 'damaged caller 610 681' 'damaged answerer 760' 'blocks 03 b5' 'blocks 00 02' 'blocks 02 B5 00' '# Te' ''; } >"$work/input"
+    { printf '%b' "$whole"; random "$n" "$n" $'\n' 'damaged caller 320 700 771' 'damaged answerer 850' 'cadence 3 120' 'cadence 20' 'blocks 03 b5' 'blocks 00 02' 'blocks 02 B5 00' '# Te' ''; } >"$work/input"
     survives "random lines behind a call, run $n"
 done
 

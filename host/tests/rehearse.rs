@@ -2,7 +2,7 @@
 //! as the model of document 01 says. Both ends go on with what the model chooses from the CM and the JM that it makes of the same two
 //! records, or the call is cleared, or the text gets the line for what is wrong with a record or with the function of the call, or with
 //! the caller's blocks. A stranger's CM is sent as it is given, and both ends go on with what the model chooses from it and its JM for it.
-//! Below each CM that the answerer hears stand the blocks that the model reads in it.
+//! Below each CM that the answerer hears stand the blocks that the model reads in it. CI is sent as the model's caller gives it out.
 use std::{
     collections::{BTreeMap, BTreeSet},
     fs,
@@ -12,7 +12,7 @@ use std::{
     process::{Command, Stdio},
 };
 use tailsprig::{
-    model::{Block, Choice, End, Function, Kind, Menu, Model, Record, Refusal, Session},
+    model::{self, Block, Cadence, Choice, End, Function, Kind, Menu, Model, Record, Refusal, Session, State},
     numbers, text,
 };
 
@@ -165,6 +165,11 @@ impl Random {
         cm
     }
 
+    /// How many sequences CI is on, and how many bit times off, or nothing of both.
+    fn cadence(&mut self) -> Option<(u8, u16)> {
+        self.one_in(2).then(|| (3 + self.below(18) as u8, 120 + self.below(481) as u16))
+    }
+
     /// A function, most often one that the caller has.
     fn function(&mut self, caller: &Record) -> u8 {
         match self.below(6) as u8 + 1 {
@@ -175,14 +180,23 @@ impl Random {
 }
 
 /// What is planned: two ends, the function of the call, the CM of a stranger in place of the caller's record and of the function, Te
-/// where it is given, the octets of the caller's blocks, the damaged bits of either end.
+/// and the cadence where they are given, the octets of the caller's blocks, the damaged bits of either end.
 struct Call {
     ends: [Record; 2],
     function: u8,
     given: Option<Vec<u8>>,
     te: Option<usize>,
+    cadence: Option<(u8, u16)>,
     blocks: Vec<u8>,
     damaged: [BTreeSet<usize>; 2],
+}
+
+/// What the caller sends while it calls: when each on period begins, the bits by their times, without those of silence, and when it is
+/// quiet.
+struct Calling {
+    begins: Vec<u32>,
+    bits: BTreeMap<usize, u8>,
+    quiet: u32,
 }
 
 const ENDS: [&str; 2] = ["caller", "answerer"];
@@ -224,10 +238,48 @@ fn plain_record(own: &Record) -> String {
 impl Call {
     /// How long the caller is quiet: as the text gives it, or as the model starts a caller without a value.
     fn te(&self) -> usize {
-        self.te.unwrap_or_else(|| match Model::default().start_caller(0, None) {
-            Ok(Session { end: End::Caller { te }, .. }) => te as usize,
+        self.te.unwrap_or_else(|| match Model::default().start_caller(0, None, self.cadence()) {
+            Ok(Session { end: End::Caller { te, .. }, .. }) => te as usize,
             other => panic!("no caller: {other:?}"),
         })
+    }
+
+    /// The cadence of CI, which names the function of the call, or that of a stranger's CM, or data where this is none of the six.
+    fn cadence(&self) -> Cadence {
+        let (on, off) = self.cadence.unwrap_or((5, 450));
+        let given = self.given.as_ref().map(|cm| Model::default().read(cm).map_or(0, |menu| menu.function));
+        let function = given.unwrap_or(self.function);
+        Cadence { function: if (1..=6).contains(&function) { function } else { 6 }, on, off }
+    }
+
+    /// The CI of the caller in the words of the ladder.
+    fn ci(&self) -> String {
+        shown("CI", &[self.cadence().function << 5 | 1])
+    }
+
+    /// How the model's caller calls, which gets a tick in each bit time, hears ANSam from 200 ms on, and is asked for one bit.
+    fn calling(&self) -> Calling {
+        let model = Model::default();
+        let mut session = model.start_caller(0, None, self.cadence()).expect("a caller");
+        let (mut begins, mut bits) = (Vec::new(), BTreeMap::new());
+        for time in 0.. {
+            let now = time as u32 * 10 / 3;
+            model.step(&mut session, model::Event::Tick, now).expect("a tick");
+            if now > 200 {
+                model.step(&mut session, model::Event::Ansam, now).expect("ANSam");
+            }
+            match session.state {
+                State::CallerStill => continue,
+                State::Calling => {}
+                _ => return Calling { begins, bits, quiet: now },
+            }
+            if session.given % self.cadence().period() == 0 {
+                begins.push(now);
+            }
+            let drawn = model.draw(&mut session, 1);
+            bits.extend(drawn[0].map(|bit| (time, bit)));
+        }
+        unreachable!("time goes on")
     }
 
     /// The plan that stands above the ladder.
@@ -238,7 +290,8 @@ impl Call {
             Some(cm) => format!("caller    sends {}\nanswerer  {answerer}\n", text::show_octets(cm)),
             None => format!("caller    {caller}\nanswerer  {answerer}\ncall      {function}\n"),
         };
-        plan += &format!("Te        {te}\n");
+        let Cadence { on, off, .. } = self.cadence();
+        plan += &format!("Te        {te}\ncadence   {on} {off}\n");
         for line in self.blocks.chunks(16) {
             plan += &format!("blocks    {}\n", text::show_octets(line));
         }
@@ -267,6 +320,9 @@ impl Call {
         }
         if let Some(te) = self.te {
             lines.push(vec!["Te".to_string(), te.to_string()]);
+        }
+        if let Some((on, off)) = self.cadence {
+            lines.push(vec!["cadence".to_string(), on.to_string(), off.to_string()]);
         }
         for (end, bits) in ENDS.iter().zip(&self.damaged) {
             let mut bits: Vec<String> = bits.iter().map(usize::to_string).collect();
@@ -358,11 +414,15 @@ impl Call {
         }
     }
 
-    /// Whether CM is agreed while the answerer waits, on a line without damage. CM begins with the first bit behind Te, which counts from
-    /// 1,000 ms on; it is agreed with the last of the ten 1s behind its second copy. The answerer leaves at 5,200 ms, with bit 1560.
+    /// With which bit CM begins: the first behind Te, which counts from when the caller is quiet.
+    fn cm_begins(&self) -> usize {
+        ((self.calling().quiet as usize + self.te()) * 3).div_ceil(10)
+    }
+
+    /// Whether CM is agreed while the answerer waits, on a line without damage: it is with the last of the ten 1s behind its second copy. The
+    /// answerer leaves at 5,200 ms, with bit 1560.
     fn in_time(&self, cm: &[u8]) -> bool {
-        let begins = ((1000 + self.te()) * 3).div_ceil(10);
-        begins + 2 * (20 + 10 * cm.len()) + 10 <= 1560
+        self.cm_begins() + 2 * (20 + 10 * cm.len()) + 10 <= 1560
     }
 
     /// CM of a call that nothing is wrong with: as it is given, or as the model makes it.
@@ -499,6 +559,12 @@ impl Ladder {
     fn first(&self, what: &str) -> Option<String> {
         let mut events = self.events.iter().filter(|event| event.answerer && event.what == what);
         events.next().map(|event| event.text.join(" "))
+    }
+
+    /// What the answerer hears that has this name.
+    fn heard(&self, name: &str) -> Vec<String> {
+        let of_answerer = self.events.iter().filter(|event| event.answerer && event.what == "hears");
+        of_answerer.map(|event| event.text.join(" ")).filter(|heard| heard.starts_with(name)).collect()
     }
 
     /// When an end first tells of this.
@@ -646,6 +712,12 @@ fn ends_as_the_model_says(call: &Call, said: &str, wrong: Option<String>, counts
     }
     let (plan, ladder) = plan_and_ladder(said, &printed);
     assert_eq!(plan, call.plain(), "{said}");
+    let calling = call.calling();
+    let on: Vec<&Event> = ladder.events.iter().filter(|event| event.what == "calling").collect();
+    assert_eq!(on.iter().map(|event| event.now).collect::<Vec<_>>(), calling.begins, "{said}{printed}");
+    assert!(on.iter().all(|event| !event.answerer && event.text.join(" ") == call.ci()), "{said}{printed}");
+    assert_eq!(ladder.heard("CI"), vec![call.ci(); calling.begins.len()], "{said}{printed}");
+    assert_eq!(ladder.at("quiet"), calling.quiet, "{said}{printed}");
     let cm = call.cm();
     let (jm, choice) = match call.answered(&cm) {
         Ok(answered) if call.in_time(&cm) => answered,
@@ -675,7 +747,7 @@ fn ends_as_the_model_says(call: &Call, said: &str, wrong: Option<String>, counts
     let quiet = (ladder.at("menu") - ladder.at("quiet")) as usize;
     assert!((call.te()..call.te() + 4).contains(&quiet), "{said}{printed}");
     assert_eq!(ladder.sent("menu"), Some(shown("CM", &cm)), "{said}{printed}");
-    assert_eq!(ladder.first("hears"), Some(shown("CM", &cm)), "{said}{printed}");
+    assert_eq!(ladder.heard("CM").first(), Some(&shown("CM", &cm)), "{said}{printed}");
     assert_eq!(ladder.sent("joint"), Some(shown("JM", &jm)), "{said}{printed}");
     assert_eq!(ladder.ending, ending(choice), "{said}{printed}");
 }
@@ -718,6 +790,7 @@ fn a_rehearsed_call_ends_as_the_model_says() {
                 function,
                 given: None,
                 te: None,
+                cadence: None,
                 blocks: blocks.clone(),
                 damaged: Default::default(),
             };
@@ -735,7 +808,9 @@ fn a_call_in_any_words_ends_as_the_model_says() {
         let ends = [random.record(), random.record()];
         let function = random.function(&ends[0]);
         let te = random.one_in(2).then(|| 500 + random.below(2900));
-        let call = Call { ends, function, given: None, te, blocks: random.blocks(), damaged: Default::default() };
+        let cadence = random.cadence();
+        let call =
+            Call { ends, function, given: None, te, cadence, blocks: random.blocks(), damaged: Default::default() };
         let (said, wrong) = call.in_other_words(&mut random);
         ends_as_the_model_says(&call, &said, wrong, &mut counts);
     }
@@ -751,7 +826,8 @@ fn a_stranger_is_answered_as_the_model_says() {
         let given = Some(random.given());
         let te = random.one_in(2).then(|| 500 + random.below(2900));
         let blocks = if random.one_in(10) { random.blocks() } else { Vec::new() };
-        let call = Call { ends, function: 6, given, te, blocks, damaged: Default::default() };
+        let cadence = random.cadence();
+        let call = Call { ends, function: 6, given, te, cadence, blocks, damaged: Default::default() };
         let (said, wrong) = call.in_other_words(&mut random);
         ends_as_the_model_says(&call, &said, wrong, &mut counts);
     }
@@ -766,13 +842,14 @@ fn the_answerer_waits_for_a_field_as_long_as_the_model_says() {
     let own = Record { functions, home: 6, lapm: false, access: false, cellular: false, digital: false };
     let mut counts = Counts::default();
     // A CM with more is too late behind the shortest Te.
-    for rest in 0..=27 {
+    for rest in 0..=23 {
         let blocks = [&[rest + 2, 0xB5, 0][..], &vec![b'7'; rest.into()]].concat();
         let mut call = Call {
             ends: [own.clone(), own.clone()],
             function: 6,
             given: None,
             te: None,
+            cadence: None,
             blocks,
             damaged: Default::default(),
         };
@@ -788,7 +865,7 @@ fn the_answerer_waits_for_a_field_as_long_as_the_model_says() {
             ends_as_the_model_says(&call, &call.plain(), None, &mut counts);
         }
     }
-    counts.at_least(28, &["modes", "late"]);
+    counts.at_least(24, &["modes", "late"]);
 }
 
 #[test]
@@ -815,21 +892,26 @@ fn a_menu_that_damage_makes_is_answered_as_the_model_says() {
             Err(Refusal(4)) => None,
             Err(_) => continue,
         };
-        // The caller is quiet for long, so that its line has 1s alone, and the answerer waits from 200 ms on.
-        let zeros = bits.iter().enumerate().filter(|(_, bit)| **bit == 0).map(|(place, _)| 60 + place).collect();
-        let call = Call {
+        let mut call = Call {
             ends: [own.clone(), own.clone()],
             function: own.home,
             given: None,
             te: Some(5000),
+            cadence: None,
             blocks: Vec::new(),
-            damaged: [zeros, BTreeSet::new()],
+            damaged: Default::default(),
         };
+        // The caller is quiet for long, so that its line has 1s alone but for CI, and the answerer waits from 200 ms on. Ten 1s are behind the
+        // menu, where CI may be sent too.
+        let sent = call.calling().bits;
+        let wanted = bits.iter().chain(&[1; 10]).enumerate().map(|(place, bit)| (60 + place, *bit));
+        call.damaged[0] =
+            wanted.filter(|(time, bit)| sent.get(time).unwrap_or(&1) != bit).map(|(time, _)| time).collect();
         let said = call.plain();
         let printed = rehearsed(&said);
         let (plan, ladder) = plan_and_ladder(&said, &printed);
         assert_eq!(plan, said);
-        assert_eq!(ladder.first("hears"), Some(shown("CM", &heard)), "{said}{printed}");
+        assert_eq!(ladder.heard("CM").first(), Some(&shown("CM", &heard)), "{said}{printed}");
         let choice = jm.as_ref().map(|jm| model.choice(&heard, jm).expect("what we answer was offered"));
         assert_eq!(
             ladder.first("agreed"),
@@ -866,14 +948,19 @@ fn a_call_over_a_damaged_line_ends_in_a_known_way() {
         let function = random.function(&ends[0]);
         let latest = if random.one_in(8) { 5000 } else { 2000 };
         let te = random.one_in(2).then(|| 500 + random.below(latest - 499));
-        let mut call = Call { ends, function, given: None, te, blocks: random.blocks(), damaged: Default::default() };
+        let cadence = random.cadence();
+        let blocks = random.blocks();
+        let mut call = Call { ends, function, given: None, te, cadence, blocks, damaged: Default::default() };
         if call.wrong().is_some() || call.unmade().is_some() {
             continue;
         }
         let cm = call.cm();
         let (jm, _) = call.answered(&cm).expect("a CM of ours is answered");
-        // Where CM begins; JM does so two copies of it later.
-        let begins = 300 + call.te() * 3 / 10;
+        // Where CM begins; JM does so two copies of it later. CI goes before.
+        let begins = call.cm_begins();
+        if random.one_in(3) {
+            call.damaged[0].extend((0..1 + random.below(4)).map(|_| 300 + random.below(90)));
+        }
         let copies = [&cm, &jm].map(|menu| 20 + 10 * menu.len());
         for (end, from) in [begins, begins + 2 * copies[0]].into_iter().enumerate() {
             for _ in 0..random.below(4) {
