@@ -4,3 +4,4 @@ pub mod Outcomes
 pub mod Moves
 pub mod Left
 pub mod Placed
+pub mod Unique
