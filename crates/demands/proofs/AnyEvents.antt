@@ -8,7 +8,7 @@ use mathlib.Core.List.{List, _∷_}
 use Rattle.laws.specs.Logic.{both, either}
 use Rattle.laws.proofs.Logic.{clash}
 use Rattle.records.specs.declared.Record.{Record}
-use Rattle.cadence.specs.Cadence.{isFunction, isCadence}
+use Rattle.cadence.specs.Cadence.{isCadence}
 use Rattle.cadence.specs.Giving.{begun}
 use Rattle.steps.specs.declared.Session.{Session}
 use Rattle.steps.specs.Session.{isMode, isTe, callerFrom, answererFrom}
@@ -19,7 +19,7 @@ use Rattle.demands.specs.Joint.{cmOf, jmOf}
 use Rattle.demands.specs.OneChoice.{Call, callerNames, answererNames}
 use Rattle.demands.specs.WholeCall.{carried}
 use Rattle.demands.specs.AnyEvents.{Starts, calling, answering, EndsAsAgreed, Carrying, more, EndsOnlyWith, NoEndGoesOnOtherwise}
-use Rattle.demands.proofs.WholeCall.{nothing-carried, carries-nothing, carried-alike}
+use Rattle.demands.proofs.WholeCall.{call-names, nothing-carried, carries-nothing, carried-alike}
 
 -- at a start no menu is agreed and nothing chosen
 pub any-end-ends-as-agreed : (start : Session) → Starts start → (acts : List Act) → EndsAsAgreed start acts
@@ -64,12 +64,12 @@ module _ (caller answerer : Record) (function : ℕ) (blocks : List ℕ) (call :
         clears = λ e. nothing-carried caller answerer function blocks call heardCm heardJm asSent asAnswered (sym (brought-is named 0 start acts carries (ends .clears e)));
       }
 
-  pub no-end-goes-on-otherwise : (on off callerStart te answererStart : ℕ) (callerActs answererActs : List Act) → isTe te ≡ true → isFunction function ≡ true → isCadence on off ≡ true
+  pub no-end-goes-on-otherwise : (on off callerStart te answererStart : ℕ) (callerActs answererActs : List Act) → isTe te ≡ true → isCadence on off ≡ true
       → Carrying (carried (callerNames caller function blocks heardJm)) (callerFrom callerStart te (begun function on off)) callerActs
       → Carrying (carried (answererNames answerer heardCm)) (answererFrom answererStart) answererActs
       → NoEndGoesOnOtherwise (carried (callerNames caller function blocks heardJm)) caller answerer function on off callerStart te answererStart callerActs answererActs
-  no-end-goes-on-otherwise on off callerStart te answererStart callerActs answererActs timed named-one lasting callerCarries answererCarries = record {
-    calling = ends-only (callerFrom callerStart te (begun function on off)) callerActs (calling callerStart te function on off timed named-one lasting) callerCarries;
+  no-end-goes-on-otherwise on off callerStart te answererStart callerActs answererActs timed lasting callerCarries answererCarries = record {
+    calling = ends-only (callerFrom callerStart te (begun function on off)) callerActs (calling callerStart te function on off timed (call-names caller answerer function blocks call) lasting) callerCarries;
     answering =
         ends-only (answererFrom answererStart) answererActs (answering answererStart)
         (subst (λ (choice : ℕ). Carrying choice (answererFrom answererStart) answererActs) (sym (carried-alike caller answerer function blocks call heardCm heardJm asSent asAnswered)) answererCarries);

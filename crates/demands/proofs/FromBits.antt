@@ -65,7 +65,7 @@ use Rattle.demands.specs.FromBits.{Makes, Sends, Agreed, here, later, so
 use Rattle.demands.proofs.Joint.{available-used}
 use Rattle.demands.proofs.OneChoice.{answered-fits}
 use Rattle.demands.proofs.QuietBeforeCm.{quiet-goes-by-the-start}
-use Rattle.demands.proofs.WholeCall.{both-ends-end-with-the-named-choice}
+use Rattle.demands.proofs.WholeCall.{call-names, both-ends-end-with-the-named-choice}
 use Rattle.demands.proofs.Sounding.{ci-accepted, Sounded, Ends, sounds}
 
 -- the octets of a menu that is made are octets
@@ -205,7 +205,7 @@ module _ (function on off callerStart te : ℕ) (timed : isTe te ≡ true) (name
         all = ap₂ (λ (ci bits : List ℕ). reports fresh (ci ++ bits)) ci-is (are .1) ∙ ci-then-copies (categoryOctet callFunctionTag function ∷ []) cm (ci-accepted function (function-small function named)) (are .0) (ci-sounds .sequences) (sends .copies);
       }
 
-module _ (caller answerer : Record) (function : ℕ) (blocks : List ℕ) (call : Call caller answerer function blocks) (on off callerStart te : ℕ) (timed : isTe te ≡ true) (named : isFunction function ≡ true) (lasting : isCadence on off ≡ true)
+module _ (caller answerer : Record) (function : ℕ) (blocks : List ℕ) (call : Call caller answerer function blocks) (on off callerStart te : ℕ) (timed : isTe te ≡ true) (lasting : isCadence on off ≡ true)
     (calls : Calls function on off callerStart te) (e : Exchange caller answerer function blocks (ciBits function on off callerStart te calls))
   where
     cm-made : e .cm ≡ cmOf caller function blocks
@@ -215,7 +215,7 @@ module _ (caller answerer : Record) (function : ℕ) (blocks : List ℕ) (call :
     jm-made = made-as _ (jmOf answerer (e .heardCm)) (e .jmLent) (e .jm) (e .makesJm)
 
     cm-told : HearsCiThenCm function (e .cm) (ciBits function on off callerStart te calls) (e .cmBits) (e .sendsCm .copies)
-    cm-told = hears-ci-then-cm function on off callerStart te timed named lasting calls (e .cm) (e .cmBits) (rw cm-made (with-small (cmOffer caller function) blocks)) (e .sendsCm)
+    cm-told = hears-ci-then-cm function on off callerStart te timed (call-names caller answerer function blocks call) lasting calls (e .cm) (e .cmBits) (rw cm-made (with-small (cmOffer caller function) blocks)) (e .sendsCm)
 
     cm-heard : e .heardCm ≡ e .cm
     cm-heard = agreed-as (e .sendsCm .copies) (e .heardCm) (e .cm) (agreed-behind (cm-told .sequences) (e .heardCm) (categoryOctet callFunctionTag function ∷ []) (repeated Menu (e .cm) (e .sendsCm .copies)) (subst (Agreed (e .heardCm)) (cm-told .all) (e .agreedCm)))
@@ -229,7 +229,7 @@ module _ (caller answerer : Record) (function : ℕ) (blocks : List ℕ) (call :
       cmArrives = cm-heard;
       jmArrives = jm-heard;
       ends = λ answererStart callerActs answererActs last.
-          rw (cm-made, jm-made) (both-ends-end-with-the-named-choice caller answerer function blocks call (e .heardCm) (e .heardJm) (cm-heard ∙ cm-made) (jm-heard ∙ jm-made) on off callerStart te answererStart callerActs answererActs last timed named lasting);
+          rw (cm-made, jm-made) (both-ends-end-with-the-named-choice caller answerer function blocks call (e .heardCm) (e .heardJm) (cm-heard ∙ cm-made) (jm-heard ∙ jm-made) on off callerStart te answererStart callerActs answererActs last timed lasting);
     }
 
 -- a buffer as long as what is put there
@@ -276,17 +276,17 @@ agrees-behind : (n : ℕ) (octets ci : List ℕ) (menus : List Report) → Agree
 agrees-behind zero octets ci menus agreed = agreed
 agrees-behind (suc n) octets ci menus agreed = later refl (agrees-behind n octets ci menus agreed)
 
-pub exchange-happens : (caller answerer : Record) (function : ℕ) (blocks : List ℕ) (on off callerStart te : ℕ) → isTe te ≡ true → isFunction function ≡ true → isCadence on off ≡ true → (calls : Calls function on off callerStart te)
+pub exchange-happens : (caller answerer : Record) (function : ℕ) (blocks : List ℕ) (on off callerStart te : ℕ) → isTe te ≡ true → isCadence on off ≡ true → (calls : Calls function on off callerStart te)
     → Call caller answerer function blocks → blocksFault blocks ≡ 0 → Exchange caller answerer function blocks (ciBits function on off callerStart te calls)
 unfolding when
-exchange-happens caller answerer function blocks on off callerStart te timed named lasting calls call fine =
+exchange-happens caller answerer function blocks on off callerStart te timed lasting calls call fine =
     let cm = cmOf caller function blocks in
     let writable = with-writable (cmOffer caller function) blocks (size-fits cm (call .fits)) in
     let jm = jmOf answerer cm in
     let answer = jmOffer answerer (offerOf cm) in
     let short = answered-fits caller answerer function blocks call in
     let answerable = menu-writable (modulationCount answer cm) answer short in
-    let told = hears-ci-then-cm function on off callerStart te timed named lasting calls cm (copies 2 (sequence Menu cm) ++ tenOnes) (with-small (cmOffer caller function) blocks) (sends-it cm writable) in
+    let told = hears-ci-then-cm function on off callerStart te timed (call-names caller answerer function blocks call) lasting calls cm (copies 2 (sequence Menu cm) ++ tenOnes) (with-small (cmOffer caller function) blocks) (sends-it cm writable) in
     record {
       cmLent = cm;
       cm = cm;

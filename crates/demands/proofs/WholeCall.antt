@@ -1,18 +1,19 @@
 -- Events in their order lead each end to the end of its session, stage by stage: what comes before the event that is due changes nothing,
 -- and that event leads by its row to the next state. With the menus as sent both ends are carried the same choice, so both end with it.
 -- Assumes nothing.
-use Prim.Native.Nat.{ℕ, _<_}
+use Prim.Native.Nat.{ℕ, zero, suc, _<_}
 use native.Mathlib.Omega.{arith}
 use mathlib.Core.Path.{_≡_, refl, sym, ap, ap₂, subst, _∙_}
 use mathlib.Core.Bool.{Bool, true, false}
 use mathlib.Core.List.{List, [], _∷_}
-use borrow.Author.Tests.{eq-eqb, ne-eqb, eqb-true, eqb-false, leb-true, ltb-true, ltb-false}
+use mathlib.Core.Logic.{⊎-elim}
+use borrow.Author.Tests.{eq-eqb, ne-eqb, eqb-true, eqb-false, leb-true, leb-false, le-leb, ltb-true, ltb-false}
 use lib.Dec.{T, leb, ltb, eqb}
-use Rattle.steps.proofs.Known.{is-so}
+use Rattle.steps.proofs.Known.{is-so, decide}
 use Rattle.laws.specs.Logic.{when, both, either}
 use Rattle.laws.specs.Tests.{allBelow}
 use Rattle.laws.proofs.Computed.{below}
-use Rattle.laws.proofs.Logic.{either-way, both-true}
+use Rattle.laws.proofs.Logic.{either-way, both-true, clash}
 use Rattle.choices.specs.Choosing.{Chosen, none, item, pcm, choiceOf}
 use Rattle.choices.specs.Choosing as choosing
 use Rattle.cadence.specs.declared.Cadence.{Cadence}
@@ -26,13 +27,17 @@ use Rattle.steps.specs.Runs.{Act, happens, asks, next, run}
 use Rattle.steps.proofs.Rows.{any-row, step-case}
 use Rattle.steps.proofs.Ranges.{step-keeps-range, caller-start-is-in-range, answerer-start-is-in-range}
 use Rattle.steps.proofs.Runs.{stays-over, next-keeps-range, only-drawn}
+use Rattle.records.specs.declared.Modes.{Modes}
 use Rattle.records.specs.declared.Record.{Record}
+use Rattle.records.specs.Record.{flag, modesAt}
+use Rattle.records.proofs.Functions.{modes-past}
 use Rattle.offers.specs.Offering.{cmOffer}
 use Rattle.offers.proofs.Making.{size-fits}
 use Rattle.offers.proofs.Fields.{with-readable}
 use Rattle.demands.specs.Joint.{cmOf, jmOf}
 use Rattle.demands.specs.OneChoice.{Call, NothingShared, callerNames, answererNames, BothNameOneChoice}
 use Rattle.demands.specs.TableLines.{InTime, enters, atTone}
+use Rattle.demands.proofs.Joint.{available-used}
 use Rattle.demands.proofs.TableLines.{caller-goes-by-the-table, answerer-goes-by-the-table, pause-goes-by-the-table}
 use Rattle.demands.proofs.OneChoice.{kindOf, choice-case, both-ends-name-one-choice, answered-fits}
 use Rattle.demands.specs.WholeCall.{carried, Due, sentTick, inTime, behind, InOrder, waiting, comes, lastTick, callerOrder, EndsJoint, byCj, bySigC, answererOrder, EndsWith, BothEndWith}
@@ -360,6 +365,15 @@ mode-by c fit some =
     either-way (λ (b : Bool). b ≡ true → isMode (carried c) ≡ true) (eqb (carried c) 0) (eqb (kindOf c) 0) (isMode (carried c))
     (λ _ h. absurd (some (kind-none c (eqb-true _ _ h)))) (λ _ h. h) (fits-mode c fit)
 
+-- a function that a caller has is one that CI may name
+pub call-names : (calls answers : Record) (function : ℕ) (blocks : List ℕ) → Call calls answers function blocks → isFunction function ≡ true
+unfolding modesAt both
+call-names calls answers zero blocks call = clash (sym (call .available) ∙ available-used calls 0)
+call-names calls answers (suc n) blocks call =
+    ⊎-elim (λ few. rw (le-leb 1 (suc n) (omega arith), few) refl)
+    (λ many. clash (sym (call .available) ∙ available-used calls (suc n) ∙ ap (λ (m : Modes). flag (m .available)) (modes-past (calls .functions) (suc n) (omega (arith, call .calling .six, leb-false (suc n) 6 many)))))
+    (decide (leb (suc n) 6))
+
 -- both ends
 module _ (calls answers : Record) (function : ℕ) (blocks : List ℕ) (call : Call calls answers function blocks) (heardCm heardJm : List ℕ) (asSent : heardCm ≡ cmOf calls function blocks) (asAnswered : heardJm ≡ jmOf answers heardCm) where
   abbrev named : Chosen
@@ -383,15 +397,15 @@ module _ (calls answers : Record) (function : ℕ) (blocks : List ℕ) (call : C
   pub carried-alike : carried (callerNames calls function blocks heardJm) ≡ carried (answererNames answers heardCm)
   carried-alike = ap carried (settles .same)
 
-  pub both-ends-end-with-the-named-choice : (on off callerStart te answererStart : ℕ) (callerActs answererActs : List Act) (last : Due) → isTe te ≡ true → isFunction function ≡ true → isCadence on off ≡ true
+  pub both-ends-end-with-the-named-choice : (on off callerStart te answererStart : ℕ) (callerActs answererActs : List Act) (last : Due) → isTe te ≡ true → isCadence on off ≡ true
       → InOrder (callerFrom callerStart te (begun function on off)) (callerOrder te (carried (callerNames calls function blocks heardJm))) callerActs
       → EndsJoint (carried (answererNames answers heardCm)) last
       → InOrder (answererFrom answererStart) (answererOrder last (carried (answererNames answers heardCm))) answererActs
       → BothEndWith (carried (callerNames calls function blocks heardJm)) calls answers function on off callerStart te answererStart callerActs answererActs
-  both-ends-end-with-the-named-choice on off callerStart te answererStart callerActs answererActs last timed named-one lasting callerOrdered closing answererOrdered =
+  both-ends-end-with-the-named-choice on off callerStart te answererStart callerActs answererActs last timed lasting callerOrdered closing answererOrdered =
       let tests = both-true _ _ named-fits in
       record {
-        calling = caller-ends callerStart te (carried named) (begun function on off) refl (caller-start-is-in-range callerStart te function on off timed named-one lasting) (tests .0) callerActs callerOrdered;
+        calling = caller-ends callerStart te (carried named) (begun function on off) refl (caller-start-is-in-range callerStart te function on off timed (call-names calls answers function blocks call) lasting) (tests .0) callerActs callerOrdered;
         answering =
             subst (λ (choice : ℕ). EndsWith choice (run (answererFrom answererStart) answererActs)) (sym carried-alike)
             (answerer-ends answererStart (carried (answererNames answers heardCm)) (sym (ap isChoice carried-alike) ∙ tests .0) last answererActs closing answererOrdered);
