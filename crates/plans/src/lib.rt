@@ -169,9 +169,9 @@ const BITS_OF_BOTH: usize = 2 * BIT_TIMES;
 // How many damaged bits or octets the plain form has in a line.
 const ENTRIES_A_LINE: usize = 16;
 
-// A call: what is said of both ends, the function of the caller or STRANGER, Te, and how many sequences CI is on and bit times off. Of each end there are eight sets, the caller's
-// first: what it wants and what its line is; each function's modes, with 0 in the set where the end has it; and last, as a number, its
-// home function.
+// A call: what is said of both ends, the function of the caller or STRANGER, Te, and how many sequences CI is on and bit times off. Of each
+// end there are eight sets, the caller's first: what it wants and what its line is; each function's modes, with 0 in the set where the end
+// has it; and last, as a number, its home function.
 pub struct Plan {
     pub sets: [u16; 16],
     pub function: u8,

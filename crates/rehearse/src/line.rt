@@ -32,7 +32,8 @@ pub struct Made {
 }
 
 // What a host keeps for each line: what is planned; the CM or JM of this end; one copy of it, CJ and a 1, a byte for each bit; how many bits the
-// copy has, and how many of what is sent are on the line; the bit that is sent now, or silence; the last report, and the octet of a CI that it told.
+// copy has, and how many of what is sent are on the line; the bit that is sent now, or silence; the last report, and the octet of a CI that it
+// told.
 pub struct Line {
     pub plan: Plan,
     pub session: Session,

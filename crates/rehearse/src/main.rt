@@ -1,6 +1,7 @@
 // Rehearses a call: reads a call text, runs both ends over a line of 300 bit/s, and prints the plan as it was understood and a ladder
-// of the call: when each end enters which state, what it sends and hears, and what it goes on with; CI once for each on period. What is wrong with a text, with its
-// blocks or with a CM that it gives is told in one line, and nothing is rehearsed; where there is no text, what one looks like.
+// of the call: when each end enters which state, what it sends and hears, with CI once for each on period, and what it goes on with. What
+// is wrong with a text, with its blocks or with a CM that it gives is told in one line, and nothing is rehearsed; where there is no text,
+// what one looks like.
 mod ladder;
 mod line;
 mod words;
