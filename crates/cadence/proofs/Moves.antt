@@ -1,18 +1,18 @@
 -- A cadence stays in range: at its start, with a tone that is remembered, and however many bits are given out of it.
 -- Assumes nothing.
 use Prim.Native.Nat.{ℕ, _+_, _%_, _<_, _≤_}
-use native.Mathlib.Nat.{mod-lt, mod-eq-of-lt, mod-add-mod}
+use native.Mathlib.Nat.{mod-lt, mod-eq-of-lt}
 use native.Mathlib.Omega.{arith}
 use mathlib.Core.Path.{_≡_, refl, ap, _∙_}
-use mathlib.Core.Bool.{Bool, true}
-use borrow.Author.Tests.{ltb-true, lt-ltb, le-ltb}
+use mathlib.Core.Bool.{true}
+use borrow.Author.Tests.{ltb-true}
 use lib.Dec.{ltb, leb}
-use Rattle.laws.specs.Logic.{when, both, either}
+use Rattle.laws.specs.Logic.{when}
 use Rattle.laws.proofs.Logic.{either-way}
 use Rattle.cadence.specs.declared.Cadence.{Cadence}
 use Rattle.cadence.specs.Cadence.{isFunction, isCadence, period}
 use Rattle.cadence.specs.Giving.{cadenceFits, begun, remembering, movedOn}
-use Rattle.cadence.proofs.Ranges.{fits-are, are-fits, Lasts, cadence-lasts, Stands, place-stands, stands-place}
+use Rattle.cadence.proofs.Ranges.{fits-are, are-fits, cadence-lasts, place-stands, stands-place}
 
 -- at its start
 pub begun-fits : (function on off : ℕ) → isFunction function ≡ true → isCadence on off ≡ true → cadenceFits (begun function on off) ≡ true

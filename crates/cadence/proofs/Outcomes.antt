@@ -9,7 +9,6 @@ use lib.ListN.{length}
 use Rattle.laws.specs.Logic.{when}
 use Rattle.laws.specs.Front.{front}
 use Rattle.refusals.specs.declared.Wrote.the-variants.{Count}
-use Rattle.refusals.specs.Lent.{count}
 use Rattle.cadence.specs.declared.Cadence.{Cadence}
 use Rattle.cadence.specs.Cadence.{onBits}
 use Rattle.cadence.specs.Giving.{cadenceFits, due, movedOn, Gives, giving, given}

@@ -13,6 +13,7 @@ use Rattle.laws.specs.Joined.{joined}
 use Rattle.cadence.specs.declared.Cadence.{Cadence}
 use Rattle.cadence.specs.Cadence.{isFunction, isCadence}
 use Rattle.cadence.specs.Giving.{begun, left}
+use Rattle.cadence.proofs.Ranges.{function-small, cadence-lasts}
 use Rattle.cadence.proofs.Left.{left-most}
 use Rattle.cadence.proofs.Placed.{begun-placed, left-placed}
 use Rattle.steps.specs.declared.Session.{Session}
@@ -22,7 +23,8 @@ use Rattle.steps.specs.Stepping.{StepOutcome, stepped}
 use Rattle.steps.specs.Runs.{Timed, Act, happens, next, run, givenOut}
 use Rattle.steps.proofs.Ranges.{caller-start-is-in-range}
 use Rattle.steps.proofs.Drawings.{run-joined, given-joined, count-calling, bits-elsewhere, Along, Goes, run-goes, endsIn, by-tone, Ending, Gone, gone-elsewhere, gone-next, Behind, run-behind, later-tone, ending-in-turn, gone-in-turn, changes-at-once, hears, changes-at-last, waits-for-bits}
-use Rattle.demands.specs.OneCadence.{endsAt, inTurn, isTone, IsSending, inTime, changesTo, Entered, EndsBehind, OneCadence}
+use Rattle.demands.specs.OneCadence.{endsAt, inTurn, isTone, IsSending, inTime, changesTo, Entered, EndsBehind, OnAndOff, OneCadence}
+use Rattle.demands.proofs.Sounding.{periods}
 
 -- where a tone leads is no calling
 changes : (tone : ℕ) → isTone tone → (endsIn tone .0 ≡ changesTo tone) × (changesTo tone ≡ calling → ⊥)
@@ -136,3 +138,7 @@ one-cadence start te function on off timed named lasting = record {
 
     along : (acts : List Act) → Along function on off (length (givenOut s acts)) (run s acts)
     along acts = rw (let z : 0 + length (givenOut s acts) ≡ length (givenOut s acts) = omega arith in z) at (goes acts .along)
+
+-- and what that cadence is
+pub on-and-off : (function on off : ℕ) → isFunction function ≡ true → isCadence on off ≡ true → OnAndOff function on off
+on-and-off function on off named lasting = record { periods = periods function on off (function-small function named) (cadence-lasts on off lasting); noBit = omega arith }

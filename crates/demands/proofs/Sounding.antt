@@ -2,20 +2,20 @@
 -- more, once silence is left out.
 -- Assumes nothing.
 use Prim.Native.Nat.{ℕ, zero, suc, _+_, _*_, _-_, _%_, _/_, _<_, _≤_}
-use native.Mathlib.Nat.{mod-lt, mod-eq-of-lt, mod-self, suc-mod, div-add-mod'}
+use native.Mathlib.Nat.{mod-eq-of-lt, mod-add-mod, suc-mod, suc-mul, div-add-mod'}
 use native.Mathlib.Omega.{arith}
 use mathlib.Core.Path.{_≡_, refl, sym, ap, ap₂, subst, _∙_}
-use mathlib.Core.Bool.{Bool, true, false}
+use mathlib.Core.Bool.{true, false}
 use mathlib.Core.List.{List, [], _∷_, _++_, append-assoc, append-nil}
 use mathlib.Core.Logic.{⊎-elim}
 use borrow.Author.Tests.{ltb-true, ltb-false, lt-ltb, le-ltb, eqb-true, eqb-false, ne-eqb}
 use lib.Arith.{digits-mod}
 use lib.Dec.{T, ltb, eqb, eqb→eq}
-use lib.ListN.{length, take, drop, getD}
+use lib.ListN.{length, take, drop, getD, replicate}
 use lib.Seq.{drop-cons, take-length}
 use Rattle.laws.specs.Logic.{when, both, either}
 use Rattle.laws.specs.Tests.{allBelow, every}
-use Rattle.laws.proofs.Logic.{either-way, both-true, clash}
+use Rattle.laws.proofs.Logic.{either-way}
 use Rattle.laws.proofs.Computed.{below, both-left, both-right}
 use Rattle.octets.specs.declared.Kind.the-variants.{Ci}
 use Rattle.octets.specs.declared.Purpose.the-variants.{Writing}
@@ -23,11 +23,11 @@ use Rattle.octets.specs.Octets.{callFunctionTag, categoryOctet}
 use Rattle.octets.specs.Lists.{firstFault, listFault}
 use Rattle.sequences.specs.Line.{framed, framedAll, sequence, copies}
 use Rattle.stretches.specs.Stretch.{octetsAll, AcceptedMessage}
-use Rattle.stretches.proofs.Each.{Each, none, more, Bits}
+use Rattle.stretches.proofs.Each.{none, more, Bits}
 use Rattle.stretches.proofs.Copies.{line-bits}
 use Rattle.steps.proofs.Known.{is-so, decide}
-use Rattle.cadence.specs.Cadence.{isFunction, isCadence, ciOf, onBits, period, silence, cadenceAt, bitsFrom}
-use Rattle.cadence.proofs.Ranges.{function-small, Lasts, cadence-lasts}
+use Rattle.cadence.specs.Cadence.{ciOf, onBits, period, silence, cadenceAt, bitsFrom}
+use Rattle.cadence.proofs.Ranges.{Lasts}
 use Rattle.cadence.proofs.Bits.{bits-joined}
 use Rattle.demands.specs.FromBits.{sounding}
 
@@ -93,11 +93,50 @@ module _ (function on off : ℕ) (small : function < 7) (lasts : Lasts on off) w
       bit-on : (p j k : ℕ) → p % period on off ≡ j * 30 + k → k < 30 → j * 30 + k < onBits on → cadenceAt function on off p ≡ getD line k 0
       bit-on p j k at few within = on-bit p k (omega (arith, at, within)) (omega (arith, at, few))
 
+  -- a whole sequence
+  sequence-at : (place j : ℕ) → place % period on off ≡ j * 30 → suc j ≤ on → bitsFrom function on off place 30 ≡ line
+  sequence-at place j at within = in-sequence 30 place j 0 (at ∙ (let z : j * 30 ≡ j * 30 + 0 = omega arith in z)) (omega arith) (omega (arith, within)) ∙ ap (λ (n : ℕ). take n line) (sym line-length) ∙ take-length line
+
+  -- a period, from its first bit on: so many sequences, and so many bit times of silence
+  module _ (place : ℕ) (first : place % period on off ≡ 0) where
+    behind-first : (k : ℕ) → k < period on off → (place + k) % period on off ≡ k
+    behind-first k less = sym (mod-add-mod place (period on off) k) ∙ ap (λ (p : ℕ). (p + k) % period on off) first ∙ (let z : 0 + k ≡ k = omega arith in ap (λ (p : ℕ). p % period on off) z) ∙ mod-eq-of-lt less
+
+    sequences-on : (j : ℕ) → j ≤ on → bitsFrom function on off place (j * 30) ≡ copies j line
+    unfolding bitsFrom copies
+    sequences-on zero few = refl
+    sequences-on (suc j) few =
+        ap (bitsFrom function on off place) (let z : suc j * 30 ≡ j * 30 + 30 = omega arith in z)
+        ∙ bits-joined function on off (j * 30) 30 place
+        ∙ ap₂ _++_ (sequences-on j (omega (arith, few))) (sequence-at (place + j * 30) j (behind-first (j * 30) (omega (arith, few, lasts .long))) few)
+        ∙ copies-more j line
+
+    silent-off : (m k : ℕ) → k + m ≤ off → bitsFrom function on off (place + (onBits on + k)) m ≡ replicate m silence
+    unfolding bitsFrom
+    silent-off zero k few = refl
+    silent-off (suc m) k few =
+        ap₂ _∷_ (off-bit (place + (onBits on + k)) (omega (arith, behind-first (onBits on + k) (omega (arith, few)))))
+        (ap (λ (p : ℕ). bitsFrom function on off p m) (let z : suc (place + (onBits on + k)) ≡ place + (onBits on + suc k) = omega arith in z) ∙ silent-off m (suc k) (omega (arith, few)))
+
+    one-period : bitsFrom function on off place (on * 30 + off) ≡ copies on line ++ replicate off silence
+    one-period =
+        bits-joined function on off (on * 30) off place
+        ∙ ap₂ _++_ (sequences-on on (omega arith)) (ap (λ (p : ℕ). bitsFrom function on off p off) (let z : place + on * 30 ≡ place + (onBits on + 0) = omega arith in z) ∙ silent-off off 0 (omega arith))
+
+  pub periods : (n : ℕ) → bitsFrom function on off 0 (n * (on * 30 + off)) ≡ copies n (copies on line ++ replicate off silence)
+  unfolding bitsFrom copies
+  periods zero = ap (bitsFrom function on off 0) (let z : 0 * (on * 30 + off) ≡ 0 = omega arith in z)
+  periods (suc n) =
+      let whole-ones = n * (on * 30 + off) in
+      let first : (0 + whole-ones) % period on off ≡ 0 = ap (λ (p : ℕ). p % period on off) (let z : 0 + whole-ones ≡ whole-ones + 0 = omega arith in z) ∙ digits-mod n (omega (arith, lasts .long)) in
+      ap (bitsFrom function on off 0) (suc-mul n (on * 30 + off))
+      ∙ bits-joined function on off whole-ones (on * 30 + off) 0
+      ∙ ap₂ _++_ (periods n) (one-period (0 + whole-ones) first)
+      ∙ copies-more n (copies on line ++ replicate off silence)
+
   -- a whole sequence sounds as it is, and a bit time of silence as nothing
   whole : (place j : ℕ) → place % period on off ≡ j * 30 → suc j ≤ on → sounding (bitsFrom function on off place 30) ≡ line
-  whole place j at within =
-      ap sounding (in-sequence 30 place j 0 (at ∙ (let z : j * 30 ≡ j * 30 + 0 = omega arith in z)) (omega arith) (omega (arith, within)) ∙ ap (λ (n : ℕ). take n line) (sym line-length) ∙ take-length line)
-      ∙ sounding-bits line (line-bits Ci (categoryOctet callFunctionTag function ∷ []) (ci-accepted function small))
+  whole place j at within = ap sounding (sequence-at place j at within) ∙ sounding-bits line (line-bits Ci (categoryOctet callFunctionTag function ∷ []) (ci-accepted function small))
 
   silent : (place : ℕ) → onBits on ≤ place % period on off → sounding (bitsFrom function on off place 1) ≡ []
   unfolding bitsFrom sounding when

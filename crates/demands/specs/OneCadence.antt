@@ -1,13 +1,16 @@
 -- Document 02, Req 04: what comes out of a caller that is asked for bits, whatever events come between, and what comes out behind ANSam or ANS.
-use Prim.Native.Nat.{ℕ, _+_, _-_, _%_, _<_, _≤_, min}
+use Prim.Native.Nat.{ℕ, _+_, _*_, _-_, _%_, _<_, _≤_, min}
 use mathlib.Core.Path.{_≡_}
 use mathlib.Core.List.{List, [], _∷_, _++_, map}
 use mathlib.Core.Logic.{_⊎_}
 use lib.Dec.{ltb, eqb}
-use lib.ListN.{length}
+use lib.ListN.{length, replicate}
 use Rattle.laws.specs.Logic.{when}
 use Rattle.laws.specs.Joined.{joined}
-use Rattle.cadence.specs.Cadence.{onBits, period, bitsFrom}
+use Rattle.octets.specs.declared.Kind.the-variants.{Ci}
+use Rattle.octets.specs.Octets.{callFunctionTag, categoryOctet}
+use Rattle.sequences.specs.Line.{sequence, copies}
+use Rattle.cadence.specs.Cadence.{onBits, period, silence, bitsFrom}
 use Rattle.steps.specs.declared.Session.{Session}
 use Rattle.steps.specs.Table.{calling, quiet, over, ansam, ans, tick}
 use Rattle.steps.specs.Stepping.{elapsed}
@@ -65,6 +68,13 @@ pub record EndsBehind (s : Session) (on off n : ℕ) (before : List Act) (t : Ti
       u .event ≡ tick → inTime met u → 90 ≤ length (joined outs) → next met (happens u) .session .state ≡ calling → ⊥
   -- "a later ANS or ANSam changes nothing"
   pub later : (acts : List Act) (u : Timed) → let met = run s (before ++ happens t ∷ acts) in isTone (u .event) → next met (happens u) .session ≡ met
+
+-- the cadence itself, so many periods of it
+pub record OnAndOff (function on off : ℕ) : Type 0 where
+  -- "an on period of three to twenty whole CI sequences of 30 bits, an off period of 120 to 600 bits", one behind the other
+  pub periods : (n : ℕ) → bitsFrom function on off 0 (n * (on * 30 + off)) ≡ copies n (copies on (sequence Ci (categoryOctet callFunctionTag function ∷ [])) ++ replicate off silence)
+  -- silence is no bit
+  pub noBit : 1 < silence
 
 -- a caller that was started with this cadence
 pub record OneCadence (function on off : ℕ) (s : Session) : Type 0 where

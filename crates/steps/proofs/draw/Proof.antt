@@ -3,7 +3,6 @@
 use mathlib.Core.Path.{refl, ap, _∙_}
 use borrow.Author.Needs.{needs}
 use borrow.Author.Tests.{eq-eqb, ne-eqb}
-use Rattle.cadence.specs.declared.Cadence.{Cadence}
 use Rattle.laws.specs.Logic.{when}
 use Rattle.steps.specs.Stepping.{withCadence}
 use Rattle.steps.specs.Drawing.{drawn}
