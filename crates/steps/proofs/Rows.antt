@@ -3,7 +3,7 @@
 use Prim.Native.Nat.{ℕ, zero, suc, _+_, _<_, _≤_}
 use native.Mathlib.Numerals.{add-one}
 use native.Mathlib.Omega.{arith}
-use mathlib.Core.Path.{_≡_, refl, ap, _∙_}
+use mathlib.Core.Path.{_≡_, refl, sym, _∙_}
 use mathlib.Core.Bool.{Bool, true, false}
 use mathlib.Core.List.{List, [], _∷_}
 use borrow.Author.Tests.{eqb-true}
@@ -16,11 +16,12 @@ use Rattle.laws.proofs.Logic.{either-way, both-true}
 use Rattle.laws.proofs.Computed.{both-left, both-right, below}
 use Rattle.steps.specs.declared.Session.{Session}
 use Rattle.steps.specs.declared.Row.{Row}
+use Rattle.steps.specs.declared.To.{To}
 use Rattle.steps.specs.declared.RowFound.{RowFound}
 use Rattle.steps.specs.declared.RowFound.the-variants.{At, Nothing}
 use Rattle.steps.specs.Table.{rows}
 use Rattle.steps.specs.Session.{inRange}
-use Rattle.steps.specs.Inner.{whatHolds}
+use Rattle.steps.specs.Inner.{whatHolds, findHeld, orElse}
 use Rattle.steps.specs.Stepping.{same, StepOutcome, elapsed, owns, carries, holds, rowFits, applies, findRow, renewed, rowTaken, remembered, moved, refusedStep, timed, steppedIn, stepped}
 
 -- the table, read at a place
@@ -29,9 +30,9 @@ unfolding rows
 row-at i d h = rw add-one (drop-cons rows i d h)
 
 -- there are nine conditions
-pub one-of-nine : (i : ℕ) (d : Row) → i < 23 → getD rows i d .condition < 9
+pub one-of-nine : (table : List Row) → table ≡ rows → (i : ℕ) (d : Row) → i < 23 → getD table i d .condition < 9
 unfolding rows allBelow both
-one-of-nine i d h = ltb→lt _ 9 (below (λ k. ltb (getD rows k d .condition) 9) 23 tt i h)
+one-of-nine table is i d h = rw is (ltb→lt _ 9 (below (λ k. ltb (getD rows k d .condition) 9) 23 tt i h))
 
 -- what the condition of this number comes to
 held-at : (s : Session) (value passed k : ℕ) (d : Bool) → k < 9 → getD (whatHolds s value passed) k d ≡ holds k s value passed
@@ -47,20 +48,41 @@ held-at s value passed (suc (suc (suc (suc (suc (suc (suc zero))))))) d h = refl
 held-at s value passed (suc (suc (suc (suc (suc (suc (suc (suc zero)))))))) d h = refl
 held-at s value passed (suc (suc (suc (suc (suc (suc (suc (suc (suc k))))))))) d h = absurd (let z : ⊥ = omega (arith, h) in z)
 
--- the test of row i, by what was found of each condition
-pub tested-at : (s : Session) (event value passed i : ℕ) (d : Row) (held : List Bool) (e : Bool) → i < 23 → held ≡ whatHolds s value passed → rowFits (getD rows i d) (s .state) event passed (getD held (getD rows i d .condition) e) ≡ applies s event value passed (getD rows i d)
-unfolding applies
-tested-at s event value passed i d held e h is =
-    ap (rowFits (getD rows i d) (s .state) event passed) (ap (λ (l : List Bool). getD l (getD rows i d .condition) e) is ∙ held-at s value passed (getD rows i d .condition) e (one-of-nine i d h))
+-- looking rows up by what was found of each condition finds the first that applies
+held-finds : (s : Session) (event value passed : ℕ) (rs : List Row) → T (every (λ (r : Row). ltb (r .condition) 9) rs) → findHeld (s .state) event passed (whatHolds s value passed) rs ≡ findRow s event value passed rs
+unfolding findHeld findRow applies every
+held-finds s event value passed [] t = refl
+held-finds s event value passed (r ∷ rs) t = rw (held-at s value passed (r .condition) false (ltb→lt _ 9 (both-left _ _ t)), held-finds s event value passed rs (both-right _ _ t)) refl
 
--- row i is found where it applies, and where it does not, the first behind it
-pub found-at : (s : Session) (event value passed i : ℕ) (d : Row) → i < 23 → applies s event value passed (getD rows i d) ≡ true → findRow s event value passed (drop i rows) ≡ At (getD rows i d .to)
-unfolding findRow when
-found-at s event value passed i d h a = rw (row-at i d h, a) refl
+all-of-nine : T (every (λ (r : Row). ltb (r .condition) 9) rows)
+unfolding every rows both
+all-of-nine = tt
 
-pub found-behind : (s : Session) (event value passed i : ℕ) (d : Row) → i < 23 → applies s event value passed (getD rows i d) ≡ false → findRow s event value passed (drop i rows) ≡ findRow s event value passed (drop (i + 1) rows)
-unfolding findRow when
-found-behind s event value passed i d h a = rw (row-at i d h, a) refl
+-- row i is found where its test says that it applies, and where not, the first behind it
+module _ (state event passed : ℕ) (held : List Bool) (table : List Row) (is : table ≡ rows) (i : ℕ) (d : Row) (h : i < 23) (test : Bool) (says : test ≡ rowFits (getD table i d) state event passed (getD held (getD table i d .condition) false)) where
+  pub found-at : test ≡ true → findHeld state event passed held (drop i rows) ≡ At (getD table i d .to)
+  unfolding findHeld when
+  found-at a = rw (row-at i d h, ← is, ← says, a) refl
+
+  pub found-behind : test ≡ false → findHeld state event passed held (drop i rows) ≡ findHeld state event passed held (drop (i + 1) rows)
+  unfolding findHeld when
+  found-behind a = rw (row-at i d h, ← is, ← says, a) refl
+
+or-nothing : (found : RowFound) → orElse found Nothing ≡ found
+or-nothing (At to) = refl
+or-nothing Nothing = refl
+
+-- what is found in the first part of the table, or else in the second, is the first row that applies
+module _ (s : Session) (event value passed : ℕ) (held : List Bool) (is : held ≡ whatHolds s value passed) (early : RowFound) (first : orElse early (findHeld (s .state) event passed held (drop 12 rows)) ≡ findHeld (s .state) event passed held rows) where
+  in-parts : orElse early (findHeld (s .state) event passed held (drop 12 rows)) ≡ findRow s event value passed rows
+  in-parts = first ∙ rw is (held-finds s event value passed rows all-of-nine)
+
+  pub found-early : (to : To) → early ≡ At to → At to ≡ findRow s event value passed rows
+  found-early to e = rw e at in-parts
+
+  pub found-late : early ≡ Nothing → (late : RowFound) → orElse late (findHeld (s .state) event passed held (drop 23 rows)) ≡ findHeld (s .state) event passed held (drop 12 rows) → late ≡ findRow s event value passed rows
+  unfolding rows findHeld
+  found-late e late second = sym (or-nothing late) ∙ second ∙ (rw e at in-parts)
 
 -- a row that applies is one of this state and this event, and what it asks for holds
 pub record Applies (s : Session) (event value passed : ℕ) (r : Row) : Type 0 where

@@ -5,12 +5,14 @@ use cadence::Cadence;
 use refusals::Refusal;
 use refusals::Wrote;
 ghost use mathlib.Core.Path.{_≡_};
+ghost use Prim.Native.Nat.{_≤_};
+ghost use lib.ListN.{drop};
 ghost use Rattle.laws.specs.Logic.{both};
 ghost use Rattle.refusals.specs.Refusals.{number};
 ghost use Rattle.cadence.specs.Cadence.{isFunction};
 ghost use Rattle.steps.specs.Table.{rows};
 ghost use Rattle.steps.specs.Session.{between, isItem, isChoice, isTe, endFits, ofEnd, stateFits, early, choiceFits, endedFits, beginning, cadenceOf, inRange, callerFrom, answererFrom, defaultTe, saysStarted, startedCaller};
-ghost use Rattle.steps.specs.Inner.{whatHolds};
+ghost use Rattle.steps.specs.Inner.{whatHolds, findHeld, orElse};
 ghost use Rattle.steps.specs.Stepping.{saysAnswer, Steps, elapsed, owns, carries, isSent, rowFits, findRow, chosenAfter, renewed, endedAs, answerOf, entering, rowTaken, withCadence, remembered, moved, refusedStep, timed, steppedIn, stepped};
 ghost use Rattle.steps.specs.Drawing.{Draws, drawn};
 
@@ -585,27 +587,44 @@ fn row_applies(row: Row, state: u8, event: u8, passed: u32, holding: bool) -> bo
     row.state == state && (row.event == event && (row.least <= passed && holding))
 }
 
-fn find_row(session: Session, event: u8, value: u8, passed: u32) -> RowFound
-    ensures { λ r. ⌜ r ≡ findRow session event value passed rows ⌝ }
+// The first row that applies from one place in the table to another.
+fn find_between(
+    state: u8,
+    event: u8,
+    passed: u32,
+    holding: [bool; 9],
+    table: [Row; 23],
+    from: usize,
+    end: usize,
+) -> RowFound
+    requires { ⌜ table ≡ rows ⌝ }
+    requires { ⌜ from ≤ end ⌝ }
+    requires { ⌜ end ≤ 23 ⌝ }
+    ensures { λ r. ⌜ orElse r (findHeld state event passed holding (drop end rows)) ≡ findHeld state event passed holding (drop from rows) ⌝ }
 {
-    let table = ROWS;
-    let holding = what_holds(session, value, passed);
-    let mut i: usize = 0;
-    while i < 23 {
+    let mut i = from;
+    while i < end {
         let row = table[i];
-        if row_applies(
-            row,
-            session.state,
-            event,
-            passed,
-            holding[row.condition as usize],
-        ) {
+        if row_applies(row, state, event, passed, holding[row.condition as usize]) {
             let to = row.to;
             return RowFound::At(to);
         }
         i += 1;
     }
     RowFound::Nothing
+}
+
+// The table is looked at in two parts, since the compiler unrolls a search of 21 rows at the most (docs/SPEED.md).
+fn find_row(session: Session, event: u8, value: u8, passed: u32) -> RowFound
+    ensures { λ r. ⌜ r ≡ findRow session event value passed rows ⌝ }
+{
+    let table = ROWS;
+    let holding = what_holds(session, value, passed);
+    let early = find_between(session.state, event, passed, holding, table, 0, 12);
+    let RowFound::At(to) = early else {
+        return find_between(session.state, event, passed, holding, table, 12, 23);
+    };
+    RowFound::At(to)
 }
 
 // The choice once an event is taken: an agreed menu brings one.
