@@ -17,7 +17,7 @@ use Rattle.names.specs.Inner.{nameAt}
 abbrev pub from : ℕ → List Entry
 from at = drop (at / 22) names
 
-module _ (at : ℕ) (h : at < 880) where
+module _ (at : ℕ) (h : at < 902) where
   first : from at ≡ nameAt (at / 22) ∷ from (at + 22)
   unfolding names nameAt
   first =
@@ -36,10 +36,10 @@ module _ (at : ℕ) (h : at < 880) where
   unfolding namesOf
   names-on p kind set = ap (λ (rest : List Entry). typed p (namesOf kind set rest)) first ∙ typed-joined p (nameOf kind set (nameAt (at / 22))) (namesOf kind set (from (at + 22)))
 
-module _ (at : ℕ) (h : 880 ≤ at) where
+module _ (at : ℕ) (h : 902 ≤ at) where
   none-left : from at ≡ []
   unfolding names
-  none-left = let past : 40 ≤ at / 22 = omega (arith, h) in drop-of-length-le names past
+  none-left = let past : 41 ≤ at / 22 = omega (arith, h) in drop-of-length-le names past
 
   pub named-end : (word : List ℕ) → namedBy (from at) word ≡ meaningOf noName
   unfolding namedBy

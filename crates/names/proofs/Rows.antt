@@ -46,15 +46,15 @@ row-of-test row e t =
       number = eqb→eq (getD row 20 0) (e .number) (both-right (eqb (getD row 19 0) (e .kind)) _ meant);
     }
 
-each-row : (i : ℕ) → i < 40 → T (isRow (take 22 (drop (22 * i) table)) (nameAt i))
+each-row : (i : ℕ) → i < 41 → T (isRow (take 22 (drop (22 * i) table)) (nameAt i))
 unfolding table names nameAt bytes joined allBelow both sameList
-each-row i h = below (λ (k : ℕ). isRow (take 22 (drop (22 * k) table)) (nameAt k)) 40 tt i h
+each-row i h = below (λ (k : ℕ). isRow (take 22 (drop (22 * k) table)) (nameAt k)) 41 tt i h
 
 -- the part of a table from a place on that is as long as a row
 abbrev part : List ℕ → ℕ → List ℕ
 part rows at = take (at + 22 - at) (drop at rows)
 
-pub row-at : (rows : List ℕ) → rows ≡ table → (at : ℕ) → at < 880 → at % 22 ≡ 0 → Row (part rows at) (nameAt (at / 22))
+pub row-at : (rows : List ℕ) → rows ≡ table → (at : ℕ) → at < 902 → at % 22 ≡ 0 → Row (part rows at) (nameAt (at / 22))
 row-at rows is-table at h whole =
     let place : 22 * (at / 22) ≡ at = omega (arith, whole) in
     let columns : 22 ≡ at + 22 - at = omega arith in
@@ -63,7 +63,7 @@ row-at rows is-table at h whole =
     let long = subst (λ (n : ℕ). Row (take n (drop at table)) (nameAt (at / 22))) columns there in
     subst (λ (xs : List ℕ). Row (part xs at) (nameAt (at / 22))) (sym is-table) long
 
-pub table-length : (rows : List ℕ) → rows ≡ table → length rows ≡ 880
+pub table-length : (rows : List ℕ) → rows ≡ table → length rows ≡ 902
 unfolding table names bytes joined
 table-length rows is-table = ap length is-table
 

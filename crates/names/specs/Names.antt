@@ -66,6 +66,7 @@ names =
     entry "damaged" line 7 ∷
     entry "blocks" line 8 ∷
     entry "cadence" line 9 ∷
+    entry "answers" line 10 ∷
     entry "H.324" function 1 ∷
     entry "textphone" function 2 ∷
     entry "videotex" function 3 ∷

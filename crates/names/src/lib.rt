@@ -37,7 +37,7 @@ pub struct Meaning {
 }
 
 // How many bytes the table has, and each of its rows; where in a row the length, the kind and the number stand.
-const TABLE: usize = 880;
+const TABLE: usize = 902;
 
 const ROW: usize = 22;
 
@@ -59,6 +59,7 @@ fn table() -> [u8; TABLE]
  damaged          \x07\x02\x07
  blocks           \x06\x02\x08
  cadence          \x07\x02\x09
+ answers          \x07\x02\x0a
  H.324            \x05\x03\x01
  textphone        \x09\x03\x02
  videotex         \x08\x03\x03

@@ -14,7 +14,7 @@ use Rattle.names.specs.declared.Meaning.{Meaning}
 use Rattle.names.specs.Names.{end, line, function, mode, otherMode, part, wanted, quality, named}
 use Rattle.plans.specs.declared.Reading.{Reading}
 use Rattle.plans.specs.Text.{number, octet}
-use Rattle.plans.specs.Reading.{beginning, inEnd, afterHome, afterWants, afterCall, afterTe, afterDamaged, firstBit, bits, done, firstOctet, octets, afterCadence, afterOn, mistaken, going, say, nameFunction, nameHome, nameMode, partWord, endWord, isSaid, beginNamed, behindName, firstWord, nameCall, functionWord, planning, nameWord, numberWord, octetWord, readWord, recordOf, recordMistake, withHome, finishEnd, finishLine, noPlan, answer, missing, withDefault, finished, modeFirst, twice, home, setAt, store, firstOf}
+use Rattle.plans.specs.Reading.{beginning, inEnd, afterHome, afterWants, afterCall, afterTe, afterDamaged, firstBit, bits, done, firstOctet, octets, afterCadence, afterOn, afterAnswers, mistaken, going, say, nameFunction, nameHome, nameMode, partWord, endWord, isSaid, beginNamed, behindName, firstWord, nameCall, functionWord, planning, nameWord, numberWord, octetWord, readWord, recordOf, recordMistake, withHome, finishEnd, finishLine, noPlan, answer, missing, withDefault, finished, modeFirst, twice, home, setAt, store, firstOf}
 use Rattle.plans.specs.Inner.{lacking}
 
 -- a word that names something: the kind of that decides too
@@ -143,14 +143,15 @@ module _ (r line : Reading) (is-line : line ≡ withHome r) (wrong : ℕ) (is-wr
 -- a number is asked for, or an octet, or a name
 module _ (r : Reading) (text : List ℕ) where
   pub number-asked :
-      (n : ℕ) → n ≡ number text → ((r .context ≡ afterTe) ⊎ (r .context ≡ afterCadence)) ⊎ ((r .context ≡ firstBit) ⊎ (r .context ≡ afterOn)) ⊎ (r .context ≡ bits)
+      (n : ℕ) → n ≡ number text → ((r .context ≡ afterTe) ⊎ (r .context ≡ afterCadence)) ⊎ ((r .context ≡ firstBit) ⊎ (r .context ≡ afterOn)) ⊎ ((r .context ≡ bits) ⊎ (r .context ≡ afterAnswers))
       → readWord r text ≡ numberWord r n
   unfolding readWord when either
   number-asked n is-number (inl (inl here)) = simp (here, is-number)
   number-asked n is-number (inl (inr here)) = simp (here, is-number)
   number-asked n is-number (inr (inl (inl here))) = simp (here, is-number)
   number-asked n is-number (inr (inl (inr here))) = simp (here, is-number)
-  number-asked n is-number (inr (inr here)) = simp (here, is-number)
+  number-asked n is-number (inr (inr (inl here))) = simp (here, is-number)
+  number-asked n is-number (inr (inr (inr here))) = simp (here, is-number)
 
   pub octet-asked : (n : ℕ) → n ≡ octet text → (r .context ≡ firstOctet) ⊎ (r .context ≡ octets) → readWord r text ≡ octetWord r n
   unfolding readWord when either
@@ -159,10 +160,10 @@ module _ (r : Reading) (text : List ℕ) where
 
   pub name-asked :
       (m : Meaning) → m ≡ named text → ((r .context ≡ afterTe) ⊎ (r .context ≡ afterCadence) → ⊥) → ((r .context ≡ firstBit) ⊎ (r .context ≡ afterOn) → ⊥)
-      → (r .context ≡ bits → ⊥) → (r .context ≡ firstOctet → ⊥) → (r .context ≡ octets → ⊥) → readWord r text ≡ nameWord r m
+      → ((r .context ≡ bits) ⊎ (r .context ≡ afterAnswers) → ⊥) → (r .context ≡ firstOctet → ⊥) → (r .context ≡ octets → ⊥) → readWord r text ≡ nameWord r m
   unfolding readWord when either
   name-asked m is-meant none none-behind no-bits no-first no-octets =
-      simp (ne-eqb (r .context) afterTe (λ here. none (inl here)), ne-eqb (r .context) afterCadence (λ here. none (inr here)), ne-eqb (r .context) afterOn (λ here. none-behind (inr here)), ne-eqb (r .context) firstBit (λ here. none-behind (inl here)), ne-eqb (r .context) bits no-bits, ne-eqb (r .context) firstOctet no-first, ne-eqb (r .context) octets no-octets, is-meant)
+      simp (ne-eqb (r .context) afterTe (λ here. none (inl here)), ne-eqb (r .context) afterCadence (λ here. none (inr here)), ne-eqb (r .context) afterOn (λ here. none-behind (inr here)), ne-eqb (r .context) firstBit (λ here. none-behind (inl here)), ne-eqb (r .context) bits (λ here. no-bits (inl here)), ne-eqb (r .context) afterAnswers (λ here. no-bits (inr here)), ne-eqb (r .context) firstOctet no-first, ne-eqb (r .context) octets no-octets, is-meant)
 
 -- the end of a text
 one-answer : {A : Type 0} (wrong : ℕ → A) (right : A) (t : Bool) (what missed : ℕ) → eqb what 0 ≡ t

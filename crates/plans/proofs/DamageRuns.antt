@@ -48,14 +48,14 @@ module _ (plan : Plan) (n : ℕ) (name : List ℕ) (is-known : Known name end n)
   abbrev with : ℕ → Found → Found
   with time d = found (set (d .damaged) (place + time) 1) (d .octets) (d .whose)
 
-  time-run : (context time : ℕ) (d : Found) → eqb context 6 ≡ false → eqb context 23 ≡ false → eqb context 24 ≡ false → atBits (within context) ≡ true → atOctets (within context) ≡ false → time < 9000 → Run (within context) d (32 ∷ decimal time) (within bits) (with time d)
+  time-run : (context time : ℕ) (d : Found) → eqb context 6 ≡ false → eqb context 23 ≡ false → eqb context 24 ≡ false → eqb context 25 ≡ false → atBits (within context) ≡ true → atOctets (within context) ≡ false → time < 9000 → Run (within context) d (32 ∷ decimal time) (within bits) (with time d)
   unfolding readWord numberWord when both either
-  time-run context time d no-te no-cadence no-on at-bits no-octets small =
+  time-run context time d no-te no-cadence no-on no-answer at-bits no-octets small =
       let low : time < 100000 = omega (arith, small) in
       let is-read = decimal-read time low in
       spaced 1 refl
       (word-run (within context) (within bits) d (with time d) (decimal time) (decimal-some time low) (decimal-spelled time)
-      (simp (no-te, no-cadence, no-on, at-bits, is-read, le-ltb 8999 time (omega (arith, small))))
+      (simp (no-te, no-cadence, no-on, no-answer, at-bits, is-read, le-ltb 8999 time (omega (arith, small))))
       refl
       (simp (at-bits, is-read, there))
       (simp (no-octets, append-nil))
@@ -64,7 +64,7 @@ module _ (plan : Plan) (n : ℕ) (name : List ℕ) (is-known : Known name end n)
   bit-run : (count time : ℕ) (d : Found) (r : Reading) → Ready plan (within bits) count r → time < 9000 → Run r d (bitText front count time) (within bits) (with time d)
   unfolding either
   bit-run count time d r ready small =
-      entry-run bit-lines count (decimal time) d (with time d) r ready (time-run firstBit time d refl refl refl refl refl small) (time-run bits time d refl refl refl refl refl small)
+      entry-run bit-lines count (decimal time) d (with time d) r ready (time-run firstBit time d refl refl refl refl refl refl small) (time-run bits time d refl refl refl refl refl refl small)
 
   pub bits-stop : (list : List ℕ) (count time : ℕ) → Stops (bitsText front count time list)
   unfolding bitsText wordLength bytes when either

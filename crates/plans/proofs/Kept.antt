@@ -19,7 +19,7 @@ use Rattle.plans.specs.declared.Plan.{Plan}
 use Rattle.plans.specs.declared.Answer.{Answer}
 use Rattle.plans.specs.declared.Reading.{Reading}
 use Rattle.plans.specs.Text.{lineFeed, word}
-use Rattle.plans.specs.Reading.{beginning, inEnd, bits, octets, firstOctet, stranger, done, defaultOn, defaultOff, isOn, noFunction, homeNotHad, pcmAlone, noCaller, noAnswerer, noCall, place, home, setAt, store, lacksCall, planning, isStranger, isSaid, recordOf, recordMistake, withHome, finishEnd, mayEnd, finishLine, scanAfter, beginsWord, readByte, noPlan, fresh, answer, missing, withDefault, finished, readFrom, octetAt, oneOctet, octetsFrom, octetsIn, cmIn}
+use Rattle.plans.specs.Reading.{beginning, inEnd, bits, octets, firstOctet, stranger, done, defaultOn, defaultOff, defaultAnswer, isOn, isAnswer, noFunction, homeNotHad, pcmAlone, noCaller, noAnswerer, noCall, place, home, setAt, store, lacksCall, planning, isStranger, isSaid, recordOf, recordMistake, withHome, finishEnd, mayEnd, finishLine, scanAfter, beginsWord, readByte, noPlan, fresh, answer, missing, withDefault, finished, readFrom, octetAt, oneOctet, octetsFrom, octetsIn, cmIn}
 use Rattle.plans.specs.Good.{GoodEnd, KnownCaller, Stranger, Good, PlansAreGood}
 use Rattle.plans.proofs.Cadences.{both-periods}
 use Rattle.plans.proofs.Marking.{zeros-at}
@@ -138,6 +138,15 @@ te-given te h = go (eqb te 0) h
     go true _ = refl
     go false is-te = is-te
 
+-- the time of the answer, or that of a text that gives none
+answer-given : (answers : ℕ) → either (eqb answers 0) (isAnswer answers) ≡ true → isAnswer (when (eqb answers 0) defaultAnswer answers) ≡ true
+unfolding when either both
+answer-given answers h = go (eqb answers 0) h
+  where
+    go : (t : Bool) → either t (isAnswer answers) ≡ true → isAnswer (when t defaultAnswer answers) ≡ true
+    go true _ = refl
+    go false is-answer = is-answer
+
 -- a cadence, or the one of a text that gives none
 cadence-given :
     (on off : ℕ) → either (eqb on 0) (isOn on) ≡ true → either (eqb off 0) (isCadence defaultOn off) ≡ true
@@ -194,6 +203,7 @@ good-plan cm r kept out none-missing =
       answerer = good-end (withDefault plan) 2 (kept .parts .sets) (out .each 2 (lit≤ tt) (lit≤ tt) (ltb-true 0 (setAt plan 2 home) (all-said plan none-missing .1)));
       te = te-given (plan .te) (kept .parts .te);
       cadence = cadence-given (plan .on) (plan .off) (kept .parts .on) (kept .parts .off);
+      answers = answer-given (plan .answers) (kept .parts .answers);
     }
 
 -- an answer that is no mistake, and the octets of a stranger's CM: some, or none of a caller that is known
@@ -232,7 +242,7 @@ good-text (b ∷ rest) cm r scan at kept =
 kept-fresh : Kept [] fresh
 unfolding lacksCall both either when
 kept-fresh = record {
-  parts = record { sets = (refl, λ p. rw (zeros-at 16 p) (fits-none (p % 8))); function = omega arith; te = refl; on = refl; off = refl };
+  parts = record { sets = (refl, λ p. rw (zeros-at 16 p) (fits-none (p % 8))); function = omega arith; te = refl; on = refl; off = refl; answers = refl };
   names = no-names noPlan 0;
   inside = λ e. clash (sym e);
   outside = λ _. record { each = λ e _ _ some. absurd (omega (arith, some, zeros-at 16 (place e home))); has-call = refl };

@@ -20,7 +20,7 @@ use Rattle.cadence.specs.Cadence.{isCadence}
 use Rattle.steps.specs.Session.{isTe}
 use Rattle.plans.specs.declared.Plan.{Plan}
 use Rattle.plans.specs.declared.Reading.{Reading}
-use Rattle.plans.specs.Reading.{inEnd, afterCall, modeFirst, callNotHad, twice, firstOctet, octets, stranger, defaultOn, isOn, withSets, mistaken, beginLine, place, home, setAt, store, added, say, firstOf, nameFunction, nameHome, nameMode, lacksCall, oneOf, recordOf}
+use Rattle.plans.specs.Reading.{inEnd, afterCall, modeFirst, callNotHad, twice, firstOctet, octets, stranger, defaultOn, isOn, isAnswer, withSets, mistaken, beginLine, place, home, setAt, store, added, say, firstOf, nameFunction, nameHome, nameMode, lacksCall, oneOf, recordOf}
 use Rattle.plans.proofs.Places.{set-here, ends-apart}
 use Rattle.plans.proofs.KeptSets.{Fits, Sound, sound-at, sound-set, fits-home, fits-wanted, fits-more, named-odd, added-odd}
 
@@ -31,6 +31,7 @@ pub record Parts (plan : Plan) : Type 0 where
   pub te : either (eqb (plan .te) 0) (isTe (plan .te)) ≡ true
   pub on : either (eqb (plan .on) 0) (isOn (plan .on)) ≡ true
   pub off : either (eqb (plan .off) 0) (isCadence defaultOn (plan .off)) ≡ true
+  pub answers : either (eqb (plan .answers) 0) (isAnswer (plan .answers)) ≡ true
 
 -- the functions of a line are such, and the last is named
 pub record Named (plan : Plan) (end last first : ℕ) : Type 0 where
@@ -167,7 +168,7 @@ module _ (cm : List ℕ) (r : Reading) (kept : Kept cm r) where
     kept-store : (last first : ℕ) → Named after (r .end) last first → Kept cm (store r k numbers last first)
     unfolding both
     kept-store last first names = record {
-      parts = record { sets = sound-set (r .plan .sets) (kept .parts .sets) (r .end) k h numbers fits; function = kept .parts .function; te = kept .parts .te; on = kept .parts .on; off = kept .parts .off };
+      parts = record { sets = sound-set (r .plan .sets) (kept .parts .sets) (r .end) k h numbers fits; function = kept .parts .function; te = kept .parts .te; on = kept .parts .on; off = kept .parts .off; answers = kept .parts .answers };
       names = names;
       inside = λ _. record { low = kept .inside is-inside .low; high = kept .inside is-inside .high; other = other-done };
       outside = λ e. clash e;

@@ -20,7 +20,7 @@ use Rattle.steps.specs.Session.{isTe}
 use Rattle.plans.specs.declared.Plan.{Plan}
 use Rattle.plans.specs.declared.Reading.{Reading}
 use Rattle.plans.specs.Text.{number, noOctet, octet}
-use Rattle.plans.specs.Reading.{beginning, inEnd, afterHome, afterWants, afterCall, afterTe, afterDamaged, firstBit, bits, done, firstOctet, octets, sendsAlone, octetsBehind, cadenceBehind, afterCadence, afterOn, defaultOn, defaultOff, stranger, twice, withCall, mistaken, going, beginLine, home, setAt, say, lacksCall, planning, cadenced, allSaid, nothingYet, nameCm, partWord, endWord, isSaid, beginNamed, behindName, firstWord, nameCall, functionWord, nameWord, teWord, isOn, onWord, offWord, oneOf, bitWord, octetWord, atBits, atOctets, atNumber, numberWord, readWord, recordOf, oneOctet}
+use Rattle.plans.specs.Reading.{beginning, inEnd, afterHome, afterWants, afterCall, afterTe, afterDamaged, firstBit, bits, done, firstOctet, octets, sendsAlone, octetsBehind, cadenceBehind, afterCadence, afterOn, answersBehind, afterAnswers, defaultOn, defaultOff, stranger, twice, withCall, mistaken, going, beginLine, home, setAt, say, lacksCall, planning, cadenced, answering, allSaid, nothingYet, nameCm, partWord, endWord, isSaid, beginNamed, behindName, firstWord, nameCall, functionWord, nameWord, teWord, isOn, onWord, offWord, isAnswer, answerWord, oneOf, bitWord, octetWord, atBits, atOctets, atNumber, numberWord, readWord, recordOf, oneOctet}
 use Rattle.plans.proofs.Cadences.{both-periods}
 use Rattle.plans.proofs.Meant.{Meant, meant}
 use Rattle.plans.proofs.KeptLine.{Outside, within, Calling, Settled, calling-on, settled-within, Kept, Later, call-had, new-line, kept-wanted, kept-mode, kept-home, kept-function}
@@ -35,15 +35,18 @@ not-within n high = simp (le-ltb n 5 high, both-neither)
 
 behind-line : (n : ℕ) → 5 ≤ n → 5 ≤ behindName n
 behind-line n high =
-    either-way (λ (k : ℕ). 5 ≤ k) (eqb n octetsBehind) firstOctet (when (eqb n cadenceBehind) afterCadence n) (λ _. lit≤ tt)
-    (λ _. either-way (λ (k : ℕ). 5 ≤ k) (eqb n cadenceBehind) afterCadence n (λ _. lit≤ tt) (λ _. high))
+    let P : ℕ → Type 0 = λ (k : ℕ). 5 ≤ k in
+    either-way P (eqb n octetsBehind) firstOctet (when (eqb n cadenceBehind) afterCadence (when (eqb n answersBehind) afterAnswers n)) (λ _. lit≤ tt)
+    (λ _. either-way P (eqb n cadenceBehind) afterCadence (when (eqb n answersBehind) afterAnswers n) (λ _. lit≤ tt)
+    (λ _. either-way P (eqb n answersBehind) afterAnswers n (λ _. lit≤ tt) (λ _. high)))
 
 -- what may come next is a function to call behind the name of that line alone
 behind-call : (n : ℕ) → behindName n ≡ afterCall → n ≡ afterCall
 behind-call n =
     let P : ℕ → Type 0 = λ (k : ℕ). k ≡ afterCall → n ≡ afterCall in
-    either-way P (eqb n octetsBehind) firstOctet (when (eqb n cadenceBehind) afterCadence n) (λ _ e. absurd (omega (arith, e)))
-    (λ _. either-way P (eqb n cadenceBehind) afterCadence n (λ _ e. absurd (omega (arith, e))) (λ _ e. e))
+    either-way P (eqb n octetsBehind) firstOctet (when (eqb n cadenceBehind) afterCadence (when (eqb n answersBehind) afterAnswers n)) (λ _ e. absurd (omega (arith, e)))
+    (λ _. either-way P (eqb n cadenceBehind) afterCadence (when (eqb n answersBehind) afterAnswers n) (λ _ e. absurd (omega (arith, e)))
+    (λ _. either-way P (eqb n answersBehind) afterAnswers n (λ _ e. absurd (omega (arith, e))) (λ _ e. e)))
 
 -- so no function was called before
 none-called : (plan : Plan) (name : ℕ) → isSaid plan name ≡ false → name ≡ afterCall → plan .function ≡ 0
@@ -107,7 +110,7 @@ module _ (cm : List ℕ) (r : Reading) (kept : Kept cm r) where
       let none-said = unsaid (r .plan) 1 (eqb-true (allSaid (r .plan) 1) 0 (second .0)) in
       let none-called = eqb-true (r .plan .function) 0 (second .1) in
       record {
-        parts = record { sets = kept .parts .sets; function = le-refl stranger; te = kept .parts .te; on = kept .parts .on; off = kept .parts .off };
+        parts = record { sets = kept .parts .sets; function = le-refl stranger; te = kept .parts .te; on = kept .parts .on; off = kept .parts .off; answers = kept .parts .answers };
         names = record { first-one = kept .names .first-one; last-one = kept .names .last-one; odd = kept .names .odd };
         inside = λ e. clash (sym e);
         outside = λ _. record {
@@ -183,7 +186,7 @@ module _ (cm : List ℕ) (r : Reading) (kept : Kept cm r) where
       (f te : ℕ) → Outside (r .plan) → f ≤ stranger → either (eqb te 0) (isTe te) ≡ true → Calling (r .plan .sets) f (r .end) done cm → Later cm (planning r f te done)
   unfolding planning recordOf both
   kept-planned f te out seven is-te calling right = record {
-    parts = record { sets = kept .parts .sets; function = seven; te = is-te; on = kept .parts .on; off = kept .parts .off };
+    parts = record { sets = kept .parts .sets; function = seven; te = is-te; on = kept .parts .on; off = kept .parts .off; answers = kept .parts .answers };
     names = record { first-one = kept .names .first-one; last-one = kept .names .last-one; odd = kept .names .odd };
     inside = λ e. clash (sym e);
     outside = λ _. record { each = out .each; has-call = call-had (lacksCall (withCall (r .plan) f te)) (r .what) right };
@@ -244,27 +247,41 @@ module _ (cm : List ℕ) (r : Reading) (kept : Kept cm r) where
       (calling-on (kept .calling) (settled-at afterTe here (λ e. omega (arith, e))) (r .end) done (λ _ e. clash (sym e)) (λ _. refl) (λ e. absurd (omega (arith, e)))))
       (λ _. slip afterTe)
 
-  -- the numbers of a cadence change nothing else
-  kept-cadenced :
-      (here : ℕ) → eqb (r .context) here ≡ true → 5 ≤ here → (here ≡ firstOctet → ⊥) → (on off context : ℕ) → either (eqb on 0) (isOn on) ≡ true
-      → either (eqb off 0) (isCadence defaultOn off) ≡ true → within context ≡ false → oneOf context firstOctet octets ≡ false → (context ≡ afterCall → ⊥)
-      → Later cm (cadenced r on off context)
-  unfolding cadenced recordOf lacksCall
-  kept-cadenced here is-here high apart on off context is-on is-off outside no-octets no-call _ =
-      let out = kept .outside (at-context here is-here ∙ not-within here high) in
-      record {
-        parts = record { sets = kept .parts .sets; function = kept .parts .function; te = kept .parts .te; on = is-on; off = is-off };
+  -- a cadence, or the time of the answer, changes nothing else
+  module _ (here : ℕ) (is-here : eqb (r .context) here ≡ true) (high : 5 ≤ here) (apart : here ≡ firstOctet → ⊥) (context : ℕ) (outside : within context ≡ false)
+      (no-octets : oneOf context firstOctet octets ≡ false) (no-call : context ≡ afterCall → ⊥)
+    where
+      out : Outside (r .plan)
+      out = kept .outside (at-context here is-here ∙ not-within here high)
+
+      calling : Calls (r .end) context
+      calling = calling-on (kept .calling) (settled-at here is-here apart) (r .end) context (λ _ e. clash (sym e ∙ outside)) (λ _. no-octets) (λ e. absurd (no-call e))
+
+      kept-cadenced : (on off : ℕ) → either (eqb on 0) (isOn on) ≡ true → either (eqb off 0) (isCadence defaultOn off) ≡ true → Later cm (cadenced r on off context)
+      unfolding cadenced recordOf lacksCall
+      kept-cadenced on off is-on is-off _ = record {
+        parts = record { sets = kept .parts .sets; function = kept .parts .function; te = kept .parts .te; on = is-on; off = is-off; answers = kept .parts .answers };
         names = record { first-one = kept .names .first-one; last-one = kept .names .last-one; odd = kept .names .odd };
         inside = λ e. clash (sym e ∙ outside);
         outside = λ _. record { each = out .each; has-call = out .has-call };
-        calling = calling-on (kept .calling) (settled-at here is-here apart) (r .end) context (λ _ e. clash (sym e ∙ outside)) (λ _. no-octets) (λ e. absurd (no-call e));
+        calling = calling;
+      }
+
+      kept-answering : (answers : ℕ) → either (eqb answers 0) (isAnswer answers) ≡ true → Later cm (answering r answers context)
+      unfolding answering recordOf lacksCall
+      kept-answering answers is-answer _ = record {
+        parts = record { sets = kept .parts .sets; function = kept .parts .function; te = kept .parts .te; on = kept .parts .on; off = kept .parts .off; answers = is-answer };
+        names = record { first-one = kept .names .first-one; last-one = kept .names .last-one; odd = kept .names .odd };
+        inside = λ e. clash (sym e ∙ outside);
+        outside = λ _. record { each = out .each; has-call = out .has-call };
+        calling = calling;
       }
 
   kept-on : eqb (r .context) afterCadence ≡ true → (on : ℕ) → Later cm (onWord r on)
   unfolding either both
   kept-on here on =
       either-way (Later cm) (isOn on) _ _
-      (λ is-on. kept-cadenced afterCadence here (lit≤ tt) (λ e. omega (arith, e)) on (r .plan .off) afterOn (or-else (eqb on 0) is-on) (kept .parts .off) refl refl (λ e. omega (arith, e)))
+      (λ is-on. kept-cadenced afterCadence here (lit≤ tt) (λ e. omega (arith, e)) afterOn refl refl (λ e. omega (arith, e)) on (r .plan .off) (or-else (eqb on 0) is-on) (kept .parts .off))
       (λ _. slip afterCadence)
 
   kept-off : eqb (r .context) afterOn ≡ true → (off : ℕ) → Later cm (offWord r off)
@@ -273,8 +290,15 @@ module _ (cm : List ℕ) (r : Reading) (kept : Kept cm r) where
       either-way (Later cm) (isCadence (r .plan .on) off) _ _
       (λ is-cadence.
       let is-off = both-periods defaultOn off (r .plan .on) defaultOff refl is-cadence in
-      kept-cadenced afterOn here (lit≤ tt) (λ e. omega (arith, e)) (r .plan .on) off done (kept .parts .on) (or-else (eqb off 0) is-off) refl refl (λ e. omega (arith, e)))
+      kept-cadenced afterOn here (lit≤ tt) (λ e. omega (arith, e)) done refl refl (λ e. omega (arith, e)) (r .plan .on) off (kept .parts .on) (or-else (eqb off 0) is-off))
       (λ _. slip afterOn)
+
+  kept-answer : eqb (r .context) afterAnswers ≡ true → (answers : ℕ) → Later cm (answerWord r answers)
+  unfolding either both
+  kept-answer here answers =
+      either-way (Later cm) (isAnswer answers) _ _
+      (λ is-answer. kept-answering afterAnswers here (lit≤ tt) (λ e. omega (arith, e)) done refl refl (λ e. omega (arith, e)) answers (or-else (eqb answers 0) is-answer))
+      (λ _. slip afterAnswers)
 
   -- an entry of a list comes behind others: one of the two contexts is here
   one-here : (first further : ℕ) → oneOf (r .context) first further ≡ true → (r .context ≡ first) ⊎ (r .context ≡ further)
@@ -307,23 +331,25 @@ module _ (cm : List ℕ) (r : Reading) (kept : Kept cm r) where
       either-way (Later cm) (eqb (r .context) afterTe) _ _ (λ t. kept-te t n)
       (λ no-te. either-way (Later cm) (eqb (r .context) afterCadence) _ _ (λ t. kept-on t n)
       (λ no-cadence. either-way (Later cm) (eqb (r .context) afterOn) _ _ (λ t. kept-off t n)
-      (λ no-on. kept-bit (simp (no-te, no-cadence, no-on) at is-number) n)))
+      (λ no-on. either-way (Later cm) (eqb (r .context) afterAnswers) _ _ (λ t. kept-answer t n)
+      (λ no-answer. kept-bit (simp (no-te, no-cadence, no-on, no-answer) at is-number) n))))
 
   -- and no octet is
   number-alone : atNumber r ≡ true → atOctets r ≡ false
   unfolding either
-  number-alone is-number = go (eqb (r .context) afterTe) refl (eqb (r .context) afterCadence) refl (eqb (r .context) afterOn) refl is-number
+  number-alone is-number = go (eqb (r .context) afterTe) refl (eqb (r .context) afterCadence) refl (eqb (r .context) afterOn) refl (eqb (r .context) afterAnswers) refl is-number
     where
       there : (context : ℕ) → oneOf context firstOctet octets ≡ false → r .context ≡ context → atOctets r ≡ false
       there context none is = ap (λ (c : ℕ). oneOf c firstOctet octets) is ∙ none
 
       go :
           (a : Bool) → eqb (r .context) afterTe ≡ a → (b : Bool) → eqb (r .context) afterCadence ≡ b → (c : Bool) → eqb (r .context) afterOn ≡ c
-          → either a (either b (either c (atBits r))) ≡ true → atOctets r ≡ false
-      go true is b _ c _ _ = there afterTe refl (eqb-true (r .context) afterTe is)
-      go false _ true is c _ _ = there afterCadence refl (eqb-true (r .context) afterCadence is)
-      go false _ false _ true is _ = there afterOn refl (eqb-true (r .context) afterOn is)
-      go false _ false _ false _ is-bit = ⊎-elim (there firstBit refl) (there bits refl) (one-here firstBit bits is-bit)
+          → (d : Bool) → eqb (r .context) afterAnswers ≡ d → either a (either b (either c (either d (atBits r)))) ≡ true → atOctets r ≡ false
+      go true is b _ c _ d _ _ = there afterTe refl (eqb-true (r .context) afterTe is)
+      go false _ true is c _ d _ _ = there afterCadence refl (eqb-true (r .context) afterCadence is)
+      go false _ false _ true is d _ _ = there afterOn refl (eqb-true (r .context) afterOn is)
+      go false _ false _ false _ true is _ = there afterAnswers refl (eqb-true (r .context) afterAnswers is)
+      go false _ false _ false _ false _ is-bit = ⊎-elim (there firstBit refl) (there bits refl) (one-here firstBit bits is-bit)
 
 -- an octet: in the caller's line it is one of a stranger's CM
 module _ (cm : List ℕ) (r : Reading) (kept : Kept cm r) (at-octets : atOctets r ≡ true) where

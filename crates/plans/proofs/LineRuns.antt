@@ -1,4 +1,4 @@
--- The lines of a plain text, read one by one: the ends, a stranger, the call, Te, the cadence.
+-- The lines of a plain text, read one by one: the ends, a stranger, the call, Te, the cadence, the answer.
 -- Assumes nothing.
 use Prim.Native.Nat.{ℕ, _<_, _%_}
 use native.Mathlib.Omega.{arith}
@@ -18,8 +18,8 @@ use Rattle.steps.specs.Session.{isTe}
 use Rattle.plans.specs.declared.Plan.{Plan}
 use Rattle.plans.specs.declared.Reading.{Reading}
 use Rattle.plans.specs.Text.{wordLength}
-use Rattle.plans.specs.Reading.{beginning, inEnd, afterCall, afterTe, done, firstOctet, afterCadence, afterOn, defaultOn, defaultOff, stranger, planned, withCadence, home, setAt, lacksCall, planning, cadenced, partWord, endWord, isSaid, behindName, firstWord, functionWord, nameWord, numberWord, readWord, recordOf, withHome, finishEnd, finishLine, noPlan, fresh}
-use Rattle.plans.specs.Plain.{functionName, decimal, teText, cadenceText}
+use Rattle.plans.specs.Reading.{beginning, inEnd, afterCall, afterTe, done, firstOctet, afterCadence, afterOn, afterAnswers, defaultOn, defaultOff, stranger, planned, withCadence, withAnswer, isAnswer, home, setAt, lacksCall, planning, cadenced, answering, partWord, endWord, isSaid, behindName, firstWord, functionWord, nameWord, numberWord, readWord, recordOf, withHome, finishEnd, finishLine, noPlan, fresh}
+use Rattle.plans.specs.Plain.{functionName, decimal, teText, cadenceText, answersText}
 use Rattle.plans.specs.Good.{GoodEnd}
 use Rattle.plans.proofs.Runs.{Found, Run, nothing, spaced, fed, join, word-run}
 use Rattle.plans.proofs.Cadences.{in-range, both-periods}
@@ -57,6 +57,10 @@ blocks-known = known (bytes "blocks") line 8 tt
 cadence-known : Known (bytes "cadence") line 9
 unfolding names bytes every namedBy sameList when both either
 cadence-known = known (bytes "cadence") line 9 tt
+
+answers-known : Known (bytes "answers") line 10
+unfolding names bytes every namedBy sameList when both either
+answers-known = known (bytes "answers") line 10 tt
 
 sends-known : Known (bytes "sends") part 8
 unfolding names bytes every namedBy sameList when both either
@@ -116,6 +120,10 @@ module _ (plan : Plan) (before : Line) (d : Found) where
     cadence-begins : (r′ : Reading) (text : List ℕ) → isSaid plan 9 ≡ false → Run (reading plan (noLine 0) afterCadence) d text r′ d → Run r d (bytes "\ncadence   " ++ text) r′ d
     unfolding bytes wordLength when either
     cadence-begins r′ text is-new run = fed is-fed refl (join {a = bytes "cadence"} {b = replicate 3 32 ++ text} (line-begins (bytes "cadence") 9 cadence-known is-new) refl (spaced 3 refl run))
+
+    answers-begins : (r′ : Reading) (text : List ℕ) → isSaid plan 10 ≡ false → Run (reading plan (noLine 0) afterAnswers) d text r′ d → Run r d (bytes "\nanswers   " ++ text) r′ d
+    unfolding bytes wordLength when either
+    answers-begins r′ text is-new run = fed is-fed refl (join {a = bytes "answers"} {b = replicate 3 32 ++ text} (line-begins (bytes "answers") 10 answers-known is-new) refl (spaced 3 refl run))
 
 -- a stranger's line, up to the octets of its CM
 pub sends-begins : (d : Found) → Run fresh d (bytes "caller    sends") (reading (planned (replicate 16 0) stranger 0) (noLine 1) firstOctet) d
@@ -184,3 +192,15 @@ module _ (plan : Plan) (d : Found) where
         let on = cadence-begins (planned (plan .sets) (plan .function) te) (ends .0) d r (ends .1) (paced (plan .on) 0 afterOn) (decimal (plan .on)) refl on-run in
         subst (λ (text : List ℕ). Run r d text (paced (plan .on) (plan .off) done) d) (sym (append-assoc (bytes "\ncadence   " ++ decimal (plan .on)) (bytes " ") (decimal (plan .off))))
         (join on refl (spaced 1 refl off-run))
+
+-- the answer, behind all other lines that tell of the call
+module _ (before : Plan) (d : Found) (new : before .answers ≡ 0) (answers : ℕ) (is-answer : isAnswer answers ≡ true) (small : answers < 100000) where
+  answers-run : Run (reading before (noLine 0) afterAnswers) d (decimal answers) (reading (withAnswer before answers) (noLine 0) done) d
+  unfolding readWord numberWord answering when either both
+  answers-run =
+      word-run (reading before (noLine 0) afterAnswers) (reading (withAnswer before answers) (noLine 0) done) d d (decimal answers) (decimal-some answers small) (decimal-spelled answers)
+      (simp (decimal-read answers small, is-answer)) refl refl (append-nil (d .octets)) refl
+
+  pub answers-line : (r : Reading) → Ends before r → Run r d (answersText answers) (reading (withAnswer before answers) (noLine 0) done) d
+  unfolding isSaid when
+  answers-line r ends = answers-begins before (ends .0) d r (ends .1) (reading (withAnswer before answers) (noLine 0) done) (decimal answers) (simp new) answers-run

@@ -37,7 +37,7 @@ in-range kind low high m is-within is-kind =
 
 pub record Meant (m : Meaning) : Type 0 where
   pub ends : Range end 1 2 m
-  pub lines : Range line 5 9 m
+  pub lines : Range line 5 10 m
   pub functions : Range function 1 6 m
   pub parts : eqb (m .number) octetsBehind ≡ false → Range part 3 4 m
   pub wants : Range wanted 0 3 m
@@ -47,7 +47,7 @@ pub meant : (word : List ℕ) → Meant (named word)
 unfolding names bytes every both when
 meant word = record {
   ends = in-range end 1 2 (named word) (each-named (within end 1 2) names word refl refl);
-  lines = in-range line 5 9 (named word) (each-named (within line 5 9) names word refl refl);
+  lines = in-range line 5 10 (named word) (each-named (within line 5 10) names word refl refl);
   functions = in-range function 1 6 (named word) (each-named (within function 1 6) names word refl refl);
   parts = λ others. in-range part 3 4 (named word) (rw others at (each-named (λ (m : Meaning). when (eqb (m .number) octetsBehind) true (within part 3 4 m)) names word refl refl));
   wants = in-range wanted 0 3 (named word) (each-named (within wanted 0 3) names word refl refl);

@@ -16,7 +16,7 @@ use Rattle.names.specs.Names.{function, part, names, namesOf}
 use Rattle.plans.specs.declared.Plan.{Plan}
 use Rattle.plans.specs.declared.Piece.{Piece}
 use Rattle.plans.specs.Reading.{added}
-use Rattle.plans.specs.Plain.{functionName, functionsText, endText, entryFront, octetsText, bitsText, damageText, headText, teText, cadenceText, plain}
+use Rattle.plans.specs.Plain.{functionName, functionsText, endText, entryFront, octetsText, bitsText, damageText, headText, teText, cadenceText, answersText, plain}
 use Rattle.plans.specs.Inner.{texts, Writes, homeText, frontOf, pieceText, piecesText, fronts, frontText, Front}
 
 -- no name is of no kind
@@ -191,15 +191,15 @@ module _ (plan : Plan) (cm blocks damaged : List ℕ) where
   bits front blank start = bitsText (frontText front blank) 0 0 (take (times (leb 18000 (length damaged))) (drop start damaged))
 
   pub plain-in-pieces :
-      headText plan cm ++ teText (plan .te) ++ cadenceText (plan .on) (plan .off) ++ octetsText (frontText 38 48) 0 blocks ++ bits 0 17 0 ++ bits 18 37 (times (leb 18000 (length damaged))) ++ bytes "\n"
+      headText plan cm ++ teText (plan .te) ++ cadenceText (plan .on) (plan .off) ++ answersText (plan .answers) ++ octetsText (frontText 38 48) 0 blocks ++ bits 0 17 0 ++ bits 18 37 (times (leb 18000 (length damaged))) ++ bytes "\n"
       ≡ plain plan cm blocks damaged
   unfolding plain
   plain-in-pieces =
       let of-blocks = octetsText (frontText 38 48) 0 blocks in
       let answerers = bits 18 37 (times (leb 18000 (length damaged))) in
-      let lines = headText plan cm ++ teText (plan .te) ++ cadenceText (plan .on) (plan .off) ++ of-blocks in
+      let lines = headText plan cm ++ teText (plan .te) ++ cadenceText (plan .on) (plan .off) ++ answersText (plan .answers) ++ of-blocks in
       ap (λ (text : List ℕ). text ++ bytes "\n") (append-assoc lines (bits 0 17 0) answerers ∙ ap (λ (text : List ℕ). lines ++ text) (both-ends damaged (leb 18000 (length damaged)) refl))
-      ∙ ap (λ (front : List ℕ). headText plan cm ++ teText (plan .te) ++ cadenceText (plan .on) (plan .off) ++ octetsText front 0 blocks ++ damageText damaged ++ bytes "\n") blocks-lines
+      ∙ ap (λ (front : List ℕ). headText plan cm ++ teText (plan .te) ++ cadenceText (plan .on) (plan .off) ++ answersText (plan .answers) ++ octetsText front 0 blocks ++ damageText damaged ++ bytes "\n") blocks-lines
 
 -- a sum with a test
 pub few : (n : ℕ) (test : Bool) → n ≤ 100 → n + boolByte test ≤ 101

@@ -1,5 +1,5 @@
 -- The plain form of a call is read as that call, with the same CM of a stranger, the same blocks and the same bits damaged, and so it is without its
--- line for Te where Te is the default, or without that for a cadence: in both the lines of the ends are read, then those that tell the call, then the blocks, then the damaged bits.
+-- line for Te where Te is the default, or without those for a cadence and for the answer: in both the lines of the ends are read, then those that tell the call, then the blocks, then the damaged bits.
 -- Assumes nothing.
 use Prim.Native.Nat.{ℕ, zero, suc, _<_, _+_}
 use native.Mathlib.Omega.{arith}
@@ -21,9 +21,9 @@ use Rattle.plans.specs.declared.Plan.{Plan}
 use Rattle.plans.specs.declared.Answer.{Answer}
 use Rattle.plans.specs.declared.Reading.{Reading}
 use Rattle.plans.specs.Text.{wordLength}
-use Rattle.plans.specs.Reading.{beginning, done, octets, stranger, defaultOn, defaultOff, planned, home, place, setAt, lacksCall, recordOf, noPlan, fresh, isSaid, finishLine, withDefault, missing, answer, finished, readText, bitPlace, marked, octetsIn, blocksIn, cmIn}
-use Rattle.plans.specs.Plain.{endText, octetsText, bitsText, damageText, callerText, calledText, headText, teText, cadenceText, plain}
-use Rattle.plans.specs.Good.{KnownCaller, Stranger, Good, Marks, Octets, Given, IsReadAs, PlainReadsBack, TeIsTheDefault, CadenceIsTheDefault}
+use Rattle.plans.specs.Reading.{beginning, done, octets, stranger, defaultOn, defaultOff, defaultAnswer, planned, home, place, setAt, lacksCall, recordOf, noPlan, fresh, isSaid, finishLine, withDefault, missing, answer, finished, readText, bitPlace, marked, octetsIn, blocksIn, cmIn}
+use Rattle.plans.specs.Plain.{endText, octetsText, bitsText, damageText, callerText, calledText, headText, teText, cadenceText, answersText, plain}
+use Rattle.plans.specs.Good.{KnownCaller, Stranger, Good, Marks, Octets, Given, IsReadAs, PlainReadsBack, TeIsTheDefault, CadenceIsTheDefault, AnswerIsTheDefault}
 use Rattle.plans.proofs.Cadences.{in-range}
 use Rattle.plans.proofs.Runs.{Stops, stops-joined, Found, found, Run, nothing, fed, join, whole-read, whole-marked, whole-given}
 use Rattle.plans.proofs.Marking.{marking, zeros, zeros-at, first-half, other-half, halves-marked}
@@ -31,7 +31,7 @@ use Rattle.plans.proofs.Words.{Line, lineOf, noLine, reading}
 use Rattle.plans.proofs.FunctionRuns.{withFunctions, on}
 use Rattle.plans.proofs.Accepted.{has-home}
 use Rattle.plans.proofs.EndRuns.{withEnd, end-run}
-use Rattle.plans.proofs.LineRuns.{caller-known, answerer-known, lacks-none, lacks-not, lacks-unsaid, end-finished, caller-begins, answerer-begins, sends-begins, calling, te-line, cadence-line}
+use Rattle.plans.proofs.LineRuns.{caller-known, answerer-known, lacks-none, lacks-not, lacks-unsaid, end-finished, caller-begins, answerer-begins, sends-begins, calling, te-line, cadence-line, answers-line}
 use Rattle.plans.proofs.ListRuns.{Ends}
 use Rattle.plans.proofs.OctetRuns.{withOctets, with-none, octets-stop, octets-run, line-run, block-lines}
 use Rattle.plans.proofs.DamageRuns.{bits-stop, bits-run}
@@ -120,25 +120,25 @@ module _ (plan : Plan) (good : Good plan) (cm : List ℕ) (given : Given plan cm
   unfolding bytes wordLength when either
   answerer-stops = refl
 
-  -- what is read of the call, and of Te and the cadence where a line gives it
-  abbrev told : ℕ → ℕ → ℕ → Plan
-  told te on off = record { sets = plan .sets; function = plan .function; te = te; on = on; off = off }
+  -- what is read of the call, and of Te, the cadence and the answer where a line gives it
+  abbrev told : ℕ → ℕ → ℕ → ℕ → Plan
+  told te on off answers = record { sets = plan .sets; function = plan .function; te = te; on = on; off = off; answers = answers }
 
   -- the lines of a text are read, and a CM is found in them
-  abbrev Read : Found → List ℕ → ℕ → ℕ → ℕ → Type 0
-  Read d text te on off = (r : Reading) × Ends (told te on off) r × Run fresh d text r (withOctets 1 cm d)
+  abbrev Read : Found → List ℕ → ℕ → ℕ → ℕ → ℕ → Type 0
+  Read d text te on off answers = (r : Reading) × Ends (told te on off answers) r × Run fresh d text r (withOctets 1 cm d)
 
   -- the ends, and the function called
-  known-head : (d : Found) → KnownCaller plan → Read d (headText plan cm) 0 0 0
+  known-head : (d : Found) → KnownCaller plan → Read d (headText plan cm) 0 0 0 0
   unfolding calledText finishLine bytes wordLength when either
   known-head d known =
       let line = known-read known d in
       let behind = answerer-run 0 (withOctets 1 cm d) (line .0) (lacks-none (plan .sets)) (line .1) in
       let ends = join (line .2) answerer-stops (behind .2) in
       let call = calling plan (withOctets 1 cm d) (known .called) (known .function .0) (omega (arith, known .function .1)) (behind .0) (behind .1) in
-      (reading (told 0 0 0) (noLine 0) done, (noLine 0, refl), rw (ne-eqb (plan .function) stranger (no-stranger known)) (join ends refl call))
+      (reading (told 0 0 0 0) (noLine 0) done, (noLine 0, refl), rw (ne-eqb (plan .function) stranger (no-stranger known)) (join ends refl call))
 
-  stranger-head : (d : Found) → Stranger plan → Read d (headText plan cm) 0 0 0
+  stranger-head : (d : Found) → Stranger plan → Read d (headText plan cm) 0 0 0 0
   unfolding calledText when
   stranger-head d unknown =
       let line = stranger-read unknown d in
@@ -147,49 +147,60 @@ module _ (plan : Plan) (good : Good plan) (cm : List ℕ) (given : Given plan cm
       let run = subst (λ (text : List ℕ). Run fresh d text (behind .0) (withOctets 1 cm d)) (sym (append-nil both-ends)) (join (line .2) answerer-stops (behind .2)) in
       (behind .0, subst (λ (function : ℕ). Ends (planned (plan .sets) function 0) (behind .0)) (sym (unknown .unknown)) (behind .1), rw (eq-eqb (plan .function) stranger (unknown .unknown)) run)
 
-  head-run : (d : Found) → Read d (headText plan cm) 0 0 0
+  head-run : (d : Found) → Read d (headText plan cm) 0 0 0 0
   head-run d = ⊎-elim (known-head d) (stranger-head d) (good .caller)
 
   -- a caller that is known has the function called, and of a stranger nothing is said
   lacks-nothing : lacksCall plan ≡ false
   lacks-nothing = ⊎-elim (λ known. lacks-not plan (known .called)) (λ unknown. lacks-unsaid plan (unknown .nothing-said home (lit< tt))) (good .caller)
 
-  head-with-te-run : (d : Found) → Read d (headText plan cm ++ teText (plan .te)) (plan .te) 0 0
+  head-with-te-run : (d : Found) → Read d (headText plan cm ++ teText (plan .te)) (plan .te) 0 0 0
   unfolding bytes wordLength finishLine lacksCall when either
   head-with-te-run d =
       let head = head-run d in
       let te = te-line plan (withOctets 1 cm d) lacks-nothing (good .te) (omega (arith, between-true 500 5000 (plan .te) (good .te) .1)) (head .0) (head .1) in
-      (reading (told (plan .te) 0 0) (noLine 0) done, (noLine 0, refl), join (head .2) refl te)
+      (reading (told (plan .te) 0 0 0) (noLine 0) done, (noLine 0, refl), join (head .2) refl te)
 
   -- and the cadence behind such lines
   cadence-run :
-      (lines : List ℕ) (te : ℕ) → ((d : Found) → Read d lines te 0 0) → (d : Found) → Read d (lines ++ cadenceText (plan .on) (plan .off)) te (plan .on) (plan .off)
+      (lines : List ℕ) (te : ℕ) → ((d : Found) → Read d lines te 0 0 0) → (d : Found) → Read d (lines ++ cadenceText (plan .on) (plan .off)) te (plan .on) (plan .off) 0
   unfolding bytes wordLength finishLine when either
   cadence-run lines te before d =
       let told-so-far = before d in
       let cadence = cadence-line plan (withOctets 1 cm d) te (good .cadence) (told-so-far .0) (told-so-far .1) in
-      (reading (told te (plan .on) (plan .off)) (noLine 0) done, (noLine 0, refl), join (told-so-far .2) refl cadence)
+      (reading (told te (plan .on) (plan .off) 0) (noLine 0) done, (noLine 0, refl), join (told-so-far .2) refl cadence)
 
-  caller-said : (te on off : ℕ) → isSaid (told te on off) 1 ≡ true
+  -- and the answer behind all of them
+  answers-run :
+      (lines : List ℕ) (te on off : ℕ) → ((d : Found) → Read d lines te on off 0) → (d : Found) → Read d (lines ++ answersText (plan .answers)) te on off (plan .answers)
+  unfolding bytes wordLength finishLine when either
+  answers-run lines te on off before d =
+      let told-so-far = before d in
+      let small : plan .answers < 100000 = omega (arith, between-true 200 20000 (plan .answers) (good .answers) .1) in
+      let answer-read = answers-line (told te on off 0) (withOctets 1 cm d) refl (plan .answers) (good .answers) small (told-so-far .0) (told-so-far .1) in
+      (reading (told te on off (plan .answers)) (noLine 0) done, (noLine 0, refl), join (told-so-far .2) refl answer-read)
+
+  caller-said : (te on off answers : ℕ) → isSaid (told te on off answers) 1 ≡ true
   unfolding isSaid when either
-  caller-said te on off =
+  caller-said te on off answers =
       ⊎-elim (λ known. simp (ne-eqb (plan .function) stranger (no-stranger known), lt-ltb 0 (setAt plan 1 home) (has-home plan 1 (known .caller) .0)))
       (λ unknown. simp (eq-eqb (plan .function) stranger (unknown .unknown))) (good .caller)
 
   called-some : 0 < plan .function
   called-some = ⊎-elim (λ known. known .function .0) (λ unknown. omega (arith, unknown .unknown)) (good .caller)
 
-  others-said : (te on off : ℕ) → (isSaid (told te on off) 2 ≡ true) × (isSaid (told te on off) 5 ≡ true)
+  others-said : (te on off answers : ℕ) → (isSaid (told te on off answers) 2 ≡ true) × (isSaid (told te on off answers) 5 ≡ true)
   unfolding isSaid when
-  others-said te on off = (lt-ltb 0 (setAt plan 2 home) (has-home plan 2 (good .answerer) .0), lt-ltb 0 (plan .function) called-some)
+  others-said te on off answers = (lt-ltb 0 (setAt plan 2 home) (has-home plan 2 (good .answerer) .0), lt-ltb 0 (plan .function) called-some)
 
-  none-missing : (te on off : ℕ) → missing (told te on off) ≡ 0
+  none-missing : (te on off answers : ℕ) → missing (told te on off answers) ≡ 0
   unfolding missing when
-  none-missing te on off = simp (caller-said te on off, others-said te on off .0, others-said te on off .1)
+  none-missing te on off answers = simp (caller-said te on off answers, others-said te on off answers .0, others-said te on off answers .1)
 
-  is-finished : (te on off : ℕ) → withDefault (told te on off) ≡ plan → (before : Line) (at : ℕ) → finished (reading (told te on off) before beginning) at ≡ answer plan 0 at
+  is-finished :
+      (te on off answers : ℕ) → withDefault (told te on off answers) ≡ plan → (before : Line) (at : ℕ) → finished (reading (told te on off answers) before beginning) at ≡ answer plan 0 at
   unfolding finished finishLine when either
-  is-finished te on off as-meant before at = simp (none-missing te on off, as-meant)
+  is-finished te on off answers as-meant before at = simp (none-missing te on off answers, as-meant)
 
   -- what is given stays
   te-stays : when (eqb (plan .te) 0) 1000 (plan .te) ≡ plan .te
@@ -204,8 +215,12 @@ module _ (plan : Plan) (good : Good plan) (cm : List ℕ) (given : Given plan cm
   unfolding when
   off-stays = simp (ne-eqb (plan .off) 0 (λ e. omega (arith, e, in-range (plan .on) (plan .off) (good .cadence) .least-off)))
 
-  as-planned : (te on off : ℕ) → te ≡ plan .te → on ≡ plan .on → off ≡ plan .off → told te on off ≡ plan
-  as-planned te on off is-te is-on is-off = simp (is-te, is-on, is-off)
+  answers-stay : when (eqb (plan .answers) 0) defaultAnswer (plan .answers) ≡ plan .answers
+  unfolding when
+  answers-stay = simp (ne-eqb (plan .answers) 0 (λ e. omega (arith, e, between-true 200 20000 (plan .answers) (good .answers) .0)))
+
+  as-planned : (te on off answers : ℕ) → te ≡ plan .te → on ≡ plan .on → off ≡ plan .off → answers ≡ plan .answers → told te on off answers ≡ plan
+  as-planned te on off answers is-te is-on is-off is-answer = simp (is-te, is-on, is-off, is-answer)
 
 -- the damaged bits
 caller-place : (time : ℕ) → bitPlace 1 time ≡ 0 + time
@@ -246,14 +261,14 @@ module _ (plan : Plan) (damaged : List ℕ) (d : Found) (marks : Marks damaged) 
       (of-second .0, of-second .1, join (of-first .2) (bits-stop plan 2 (bytes "answerer") answerer-known 9000 answerer-place second 0 0) (of-second .2))
 
 -- a whole text: the lines that tell the ends and the call, the blocks, and the damaged bits
-module _ (plan : Plan) (cm blocks damaged : List ℕ) (good : Good plan) (given : Given plan cm) (are-octets : Octets blocks) (marks : Marks damaged) (lines : List ℕ) (te on off : ℕ)
-    (head : (d : Found) → Read plan good cm given d lines te on off) (as-meant : withDefault (told plan good cm given te on off) ≡ plan)
+module _ (plan : Plan) (cm blocks damaged : List ℕ) (good : Good plan) (given : Given plan cm) (are-octets : Octets blocks) (marks : Marks damaged) (lines : List ℕ) (te on off answers : ℕ)
+    (head : (d : Found) → Read plan good cm given d lines te on off answers) (as-meant : withDefault (told plan good cm given te on off answers) ≡ plan)
   where
     abbrev text : List ℕ
     text = lines ++ octetsText (bytes "\nblocks   ") 0 blocks ++ damageText damaged ++ bytes "\n"
 
     abbrev call : Plan
-    call = told plan good cm given te on off
+    call = told plan good cm given te on off answers
 
     abbrev after : List ℕ → ℕ → Found
     after d whose =
@@ -274,7 +289,7 @@ module _ (plan : Plan) (cm blocks damaged : List ℕ) (good : Good plan) (given 
     read-back : readText text ≡ answer plan 0 (length text)
     read-back =
         let all = whole-run [] 0 in
-        whole-read (all .1) 0 ∙ is-finished plan good cm given te on off as-meant (all .0) (0 + length text) ∙ ap (answer plan 0) (omega arith)
+        whole-read (all .1) 0 ∙ is-finished plan good cm given te on off answers as-meant (all .0) (0 + length text) ∙ ap (answer plan 0) (omega arith)
 
     right : readText text .what ≡ 0
     right = ap (λ (a : Answer). a .what) read-back
@@ -297,19 +312,30 @@ module _ (plan : Plan) (cm blocks damaged : List ℕ) (good : Good plan) (given 
 pub plain-reads-back : PlainReadsBack
 unfolding plain
 plain-reads-back plan cm blocks damaged good given are-octets marks =
-    is-read-as plan cm blocks damaged good given are-octets marks (headText plan cm ++ teText (plan .te) ++ cadenceText (plan .on) (plan .off)) (plan .te) (plan .on) (plan .off)
-    (cadence-run plan good cm given (headText plan cm ++ teText (plan .te)) (plan .te) (head-with-te-run plan good cm given))
-    (as-planned plan good cm given _ _ _ (te-stays plan good cm given) (on-stays plan good cm given) (off-stays plan good cm given))
+    let with-te = head-with-te-run plan good cm given in
+    let with-cadence = cadence-run plan good cm given (headText plan cm ++ teText (plan .te)) (plan .te) with-te in
+    is-read-as plan cm blocks damaged good given are-octets marks _ _ _ _ _
+    (answers-run plan good cm given (headText plan cm ++ teText (plan .te) ++ cadenceText (plan .on) (plan .off)) (plan .te) (plan .on) (plan .off) with-cadence)
+    (as-planned plan good cm given _ _ _ _ (te-stays plan good cm given) (on-stays plan good cm given) (off-stays plan good cm given) (answers-stay plan good cm given))
 
 pub te-is-the-default : TeIsTheDefault
 unfolding when
 te-is-the-default plan cm blocks damaged good given are-octets marks is-default =
-    is-read-as plan cm blocks damaged good given are-octets marks (headText plan cm ++ cadenceText (plan .on) (plan .off)) 0 (plan .on) (plan .off)
-    (cadence-run plan good cm given (headText plan cm) 0 (head-run plan good cm given))
-    (as-planned plan good cm given _ _ _ (sym is-default) (on-stays plan good cm given) (off-stays plan good cm given))
+    let with-cadence = cadence-run plan good cm given (headText plan cm) 0 (head-run plan good cm given) in
+    is-read-as plan cm blocks damaged good given are-octets marks _ _ _ _ _
+    (answers-run plan good cm given (headText plan cm ++ cadenceText (plan .on) (plan .off)) 0 (plan .on) (plan .off) with-cadence)
+    (as-planned plan good cm given _ _ _ _ (sym is-default) (on-stays plan good cm given) (off-stays plan good cm given) (answers-stay plan good cm given))
 
 pub cadence-is-the-default : CadenceIsTheDefault
 unfolding when
 cadence-is-the-default plan cm blocks damaged good given are-octets marks is-on is-off =
-    is-read-as plan cm blocks damaged good given are-octets marks (headText plan cm ++ teText (plan .te)) (plan .te) 0 0 (head-with-te-run plan good cm given)
-    (as-planned plan good cm given _ _ _ (te-stays plan good cm given) (sym is-on) (sym is-off))
+    is-read-as plan cm blocks damaged good given are-octets marks _ _ _ _ _
+    (answers-run plan good cm given (headText plan cm ++ teText (plan .te)) (plan .te) 0 0 (head-with-te-run plan good cm given))
+    (as-planned plan good cm given _ _ _ _ (te-stays plan good cm given) (sym is-on) (sym is-off) (answers-stay plan good cm given))
+
+pub answer-is-the-default : AnswerIsTheDefault
+unfolding when
+answer-is-the-default plan cm blocks damaged good given are-octets marks is-default =
+    is-read-as plan cm blocks damaged good given are-octets marks _ _ _ _ _
+    (cadence-run plan good cm given (headText plan cm ++ teText (plan .te)) (plan .te) (head-with-te-run plan good cm given))
+    (as-planned plan good cm given _ _ _ _ (te-stays plan good cm given) (on-stays plan good cm given) (off-stays plan good cm given) (sym is-default))

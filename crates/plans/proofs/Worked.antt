@@ -14,7 +14,7 @@ use Rattle.records.specs.declared.Modes.{Modes}
 use Rattle.records.specs.declared.Record.{Record}
 use Rattle.records.specs.Record.{noModes, modesAt, anyBad, badRecord}
 use Rattle.plans.specs.Text.{wordLength, numberOn, hexValue, octet}
-use Rattle.plans.specs.Reading.{withCadence, say, nameFunction, nameHome, nameMode, partWord, endWord, isSaid, firstWord, lacksCall, planning, functionWord, nameWord, cadenced, numberWord, readWord, recordOf, recordMistake, withHome, finishEnd, finishLine, scanAfter, readByte, noPlan, answer, missing, finished, readFrom, readText, markedFrom, marked, octetsFrom, octetsIn, blocksIn, cmIn}
+use Rattle.plans.specs.Reading.{withCadence, withAnswer, say, nameFunction, nameHome, nameMode, partWord, endWord, isSaid, firstWord, lacksCall, planning, functionWord, nameWord, cadenced, answering, numberWord, readWord, recordOf, recordMistake, withHome, finishEnd, finishLine, scanAfter, readByte, noPlan, answer, missing, finished, readFrom, readText, markedFrom, marked, octetsFrom, octetsIn, blocksIn, cmIn}
 
 abbrev having : ℕ → ℕ → Modes
 having items pcm = record { available = 1; pcm = pcm; items = items }
@@ -40,7 +40,7 @@ everyName =
 pub first-call-is-read :
     (recordOf (readText firstCall .plan) 1 ≡ dataAlone 0x101A 1) × (recordOf (readText firstCall .plan) 2 ≡ dataAlone 0x0118 0)
     × (readText firstCall .plan .function ≡ 6) × (readText firstCall .plan .te ≡ 1000)
-unfolding bytes names namedBy sameList when both either inSet modesAt anyBad badRecord wordLength numberOn say nameFunction nameHome nameMode partWord endWord isSaid firstWord lacksCall planning functionWord nameWord cadenced numberWord readWord recordOf recordMistake withHome finishEnd finishLine scanAfter readByte missing finished readFrom markedFrom marked
+unfolding bytes names namedBy sameList when both either inSet modesAt anyBad badRecord wordLength numberOn say nameFunction nameHome nameMode partWord endWord isSaid firstWord lacksCall planning functionWord nameWord cadenced answering numberWord readWord recordOf recordMistake withHome finishEnd finishLine scanAfter readByte missing finished readFrom markedFrom marked
 first-call-is-read = (refl, refl, refl, refl)
 
 abbrev severalFunctions : Record
@@ -67,7 +67,7 @@ pub every-name-is-read :
     (recordOf (readText everyName .plan) 1 ≡ severalFunctions) × (recordOf (readText everyName .plan) 2 ≡ noModesForData)
     × (readText everyName .plan .function ≡ 4) × (readText everyName .plan .te ≡ 500) × (blocksIn everyName ≡ 0xB5 ∷ [])
     × (marked everyName (replicate 4 0) ≡ 1 ∷ 0 ∷ 1 ∷ 0 ∷ [])
-unfolding bytes names namedBy sameList when both either inSet modesAt anyBad badRecord wordLength numberOn say nameFunction nameHome nameMode partWord endWord isSaid firstWord lacksCall planning functionWord nameWord cadenced numberWord readWord recordOf recordMistake withHome finishEnd finishLine scanAfter readByte missing finished readFrom markedFrom marked octet hexValue octetsFrom octetsIn
+unfolding bytes names namedBy sameList when both either inSet modesAt anyBad badRecord wordLength numberOn say nameFunction nameHome nameMode partWord endWord isSaid firstWord lacksCall planning functionWord nameWord cadenced answering numberWord readWord recordOf recordMistake withHome finishEnd finishLine scanAfter readByte missing finished readFrom markedFrom marked octet hexValue octetsFrom octetsIn
 every-name-is-read = (refl, refl, refl, refl, refl, refl)
 
 -- octets in upper and lower case, in two lines that stand apart
@@ -75,7 +75,7 @@ abbrev someBlocks : List ℕ
 someBlocks = bytes "blocks 01 23 45 67 89 AB CD EF\ncaller data\nanswerer data\ncall data\nblocks aB cd,ef # a0"
 
 pub blocks-are-read : blocksIn someBlocks ≡ 0x01 ∷ 0x23 ∷ 0x45 ∷ 0x67 ∷ 0x89 ∷ 0xAB ∷ 0xCD ∷ 0xEF ∷ 0xAB ∷ 0xCD ∷ 0xEF ∷ []
-unfolding bytes names namedBy sameList when both either inSet modesAt anyBad badRecord wordLength numberOn say nameFunction nameHome nameMode partWord endWord isSaid firstWord lacksCall planning functionWord nameWord cadenced numberWord readWord recordOf recordMistake withHome finishEnd finishLine scanAfter readByte missing finished readFrom octet hexValue octetsFrom octetsIn
+unfolding bytes names namedBy sameList when both either inSet modesAt anyBad badRecord wordLength numberOn say nameFunction nameHome nameMode partWord endWord isSaid firstWord lacksCall planning functionWord nameWord cadenced answering numberWord readWord recordOf recordMistake withHome finishEnd finishLine scanAfter readByte missing finished readFrom octet hexValue octetsFrom octetsIn
 blocks-are-read = refl
 
 -- a stranger's CM, with blocks that stand before and behind it
@@ -84,7 +84,7 @@ strangersCall = bytes "blocks 07\nanswerer data\nCaller sends c1,45 # 10\nTe 500
 
 pub stranger-is-read :
     (cmIn strangersCall ≡ 0xC1 ∷ 0x45 ∷ []) × (blocksIn strangersCall ≡ 0x07 ∷ 0x10 ∷ []) × (readText strangersCall .plan .function ≡ 7) × (readText strangersCall .plan .te ≡ 500)
-unfolding bytes names namedBy sameList when both either inSet modesAt anyBad badRecord wordLength numberOn say nameFunction nameHome nameMode partWord endWord isSaid firstWord lacksCall planning functionWord nameWord cadenced numberWord readWord recordOf recordMistake withHome finishEnd finishLine scanAfter readByte missing finished readFrom octet hexValue octetsFrom octetsIn
+unfolding bytes names namedBy sameList when both either inSet modesAt anyBad badRecord wordLength numberOn say nameFunction nameHome nameMode partWord endWord isSaid firstWord lacksCall planning functionWord nameWord cadenced answering numberWord readWord recordOf recordMistake withHome finishEnd finishLine scanAfter readByte missing finished readFrom octet hexValue octetsFrom octetsIn
 stranger-is-read = (refl, refl, refl, refl)
 
 -- it stands alone: not behind a function of the caller, in the answerer's line or behind a call, and no call or caller's line comes behind it
@@ -92,7 +92,7 @@ pub sends-stands-alone :
     (readText (bytes "caller data sends C1") ≡ answer noPlan 22 12) × (readText (bytes "answerer sends C1") ≡ answer noPlan 22 9)
     × (readText (bytes "call data\ncaller sends C1") ≡ answer noPlan 22 17) × (readText (bytes "caller sends C1\ncall data") ≡ answer noPlan 11 16)
     × (readText (bytes "caller sends C1\ncaller data") ≡ answer noPlan 11 16) × (readText (bytes "caller sends\n") ≡ answer noPlan 20 12)
-unfolding bytes names namedBy sameList when both either inSet modesAt anyBad badRecord wordLength numberOn say nameFunction nameHome nameMode partWord endWord isSaid firstWord lacksCall planning functionWord nameWord cadenced numberWord readWord recordOf recordMistake withHome finishEnd finishLine scanAfter readByte missing finished readFrom octet hexValue
+unfolding bytes names namedBy sameList when both either inSet modesAt anyBad badRecord wordLength numberOn say nameFunction nameHome nameMode partWord endWord isSaid firstWord lacksCall planning functionWord nameWord cadenced answering numberWord readWord recordOf recordMistake withHome finishEnd finishLine scanAfter readByte missing finished readFrom octet hexValue
 sends-stands-alone = (refl, refl, refl, refl, refl, refl)
 
 -- a cadence, its numbers as they are and behind zeros; without one a plan has that of the house
@@ -102,7 +102,7 @@ ends = bytes "caller data\nanswerer data\ncall data\n"
 pub cadence-is-read :
     (readText (ends ++ bytes "cadence 3 600") .plan ≡ withCadence (readText ends .plan) 3 600) × (readText (ends ++ bytes "Cadence 020,0120 # 9\n") .plan ≡ withCadence (readText ends .plan) 20 120)
     × (readText ends .plan .on ≡ 5) × (readText ends .plan .off ≡ 450)
-unfolding bytes names namedBy sameList when both either inSet modesAt anyBad badRecord wordLength numberOn say nameFunction nameHome nameMode partWord endWord isSaid firstWord lacksCall planning functionWord nameWord cadenced numberWord readWord recordOf recordMistake withHome finishEnd finishLine scanAfter readByte missing finished readFrom
+unfolding bytes names namedBy sameList when both either inSet modesAt anyBad badRecord wordLength numberOn say nameFunction nameHome nameMode partWord endWord isSaid firstWord lacksCall planning functionWord nameWord cadenced answering numberWord readWord recordOf recordMistake withHome finishEnd finishLine scanAfter readByte missing finished readFrom
 cadence-is-read = (refl, refl, refl, refl)
 
 -- a number that is none, one out of its range on either side, a third, none at all, and the line again
@@ -111,14 +111,22 @@ pub cadence-has-its-place :
     × (readText (bytes "cadence 261 450") ≡ answer noPlan 23 8) × (readText (bytes "cadence 5 119") ≡ answer noPlan 24 10) × (readText (bytes "cadence 5 601") ≡ answer noPlan 24 10)
     × (readText (bytes "cadence 5 65986") ≡ answer noPlan 24 10) × (readText (bytes "cadence 5 450 1") ≡ answer noPlan 10 14) × (readText (bytes "cadence\n") ≡ answer noPlan 23 7)
     × (readText (bytes "cadence 5\n") ≡ answer noPlan 24 9) × (readText (bytes "cadence 5 450\ncadence 5 450") ≡ answer noPlan 11 14)
-unfolding bytes names namedBy sameList when both either inSet modesAt anyBad badRecord wordLength numberOn say nameFunction nameHome nameMode partWord endWord isSaid firstWord lacksCall planning functionWord nameWord cadenced numberWord readWord recordOf recordMistake withHome finishEnd finishLine scanAfter readByte missing finished readFrom
+unfolding bytes names namedBy sameList when both either inSet modesAt anyBad badRecord wordLength numberOn say nameFunction nameHome nameMode partWord endWord isSaid firstWord lacksCall planning functionWord nameWord cadenced answering numberWord readWord recordOf recordMistake withHome finishEnd finishLine scanAfter readByte missing finished readFrom
 cadence-has-its-place = (refl, refl, refl, refl, refl, refl, refl, refl, refl, refl, refl)
 
+-- when the answerer answers, and mistakes of that line
+pub answer-is-read :
+    (readText (ends ++ bytes "answers 20000") .plan ≡ withAnswer (readText ends .plan) 20000) × (readText ends .plan .answers ≡ 200)
+    × (readText (bytes "answers late") ≡ answer noPlan 25 8) × (readText (bytes "answers 199") ≡ answer noPlan 25 8) × (readText (bytes "answers 20001") ≡ answer noPlan 25 8)
+    × (readText (bytes "answers\n") ≡ answer noPlan 25 7) × (readText (bytes "answers 200 1") ≡ answer noPlan 10 12) × (readText (bytes "answers 200\nanswers 200") ≡ answer noPlan 11 12)
+unfolding bytes names namedBy sameList when both either inSet modesAt anyBad badRecord wordLength numberOn say nameFunction nameHome nameMode partWord endWord isSaid firstWord lacksCall planning functionWord nameWord cadenced answering numberWord readWord recordOf recordMistake withHome finishEnd finishLine scanAfter readByte missing finished readFrom
+answer-is-read = (refl, refl, refl, refl, refl, refl, refl, refl)
+
 pub mistake-has-its-place : readText (bytes "caller data V.35") ≡ answer noPlan 2 12
-unfolding bytes names namedBy sameList when both either inSet modesAt anyBad badRecord wordLength numberOn say nameFunction nameHome nameMode partWord endWord isSaid firstWord lacksCall planning functionWord nameWord cadenced numberWord readWord recordOf recordMistake withHome finishEnd finishLine scanAfter readByte missing finished readFrom
+unfolding bytes names namedBy sameList when both either inSet modesAt anyBad badRecord wordLength numberOn say nameFunction nameHome nameMode partWord endWord isSaid firstWord lacksCall planning functionWord nameWord cadenced answering numberWord readWord recordOf recordMistake withHome finishEnd finishLine scanAfter readByte missing finished readFrom
 mistake-has-its-place = refl
 
 -- a word that is no octet, and a line without one
 pub no-octet-has-its-place : (readText (bytes "blocks 4 G1") ≡ answer noPlan 20 7) × (readText (bytes "blocks 41 4G") ≡ answer noPlan 21 10) × (readText (bytes "blocks\n") ≡ answer noPlan 20 6)
-unfolding bytes names namedBy sameList when both either inSet modesAt anyBad badRecord wordLength numberOn say nameFunction nameHome nameMode partWord endWord isSaid firstWord lacksCall planning functionWord nameWord cadenced numberWord readWord recordOf recordMistake withHome finishEnd finishLine scanAfter readByte missing finished readFrom octet hexValue
+unfolding bytes names namedBy sameList when both either inSet modesAt anyBad badRecord wordLength numberOn say nameFunction nameHome nameMode partWord endWord isSaid firstWord lacksCall planning functionWord nameWord cadenced answering numberWord readWord recordOf recordMistake withHome finishEnd finishLine scanAfter readByte missing finished readFrom octet hexValue
 no-octet-has-its-place = (refl, refl, refl)

@@ -12,8 +12,8 @@ use Rattle.records.specs.Record.{badRecord}
 use Rattle.cadence.specs.Cadence.{isCadence}
 use Rattle.steps.specs.Session.{isTe}
 use Rattle.plans.specs.declared.Plan.{Plan}
-use Rattle.plans.specs.Reading.{home, stranger, setAt, recordOf, answer, readText, marked, blocksIn, cmIn}
-use Rattle.plans.specs.Plain.{octetsText, damageText, headText, teText, cadenceText, plain}
+use Rattle.plans.specs.Reading.{home, stranger, setAt, isAnswer, recordOf, answer, readText, marked, blocksIn, cmIn}
+use Rattle.plans.specs.Plain.{octetsText, damageText, headText, teText, cadenceText, answersText, plain}
 
 -- an end whose record is accepted: sets of sixteen numbers; nothing is said of a function that it has not; the home function is one of six; it wants
 -- and is no more than there is
@@ -35,13 +35,14 @@ pub record Stranger (plan : Plan) : Type 0 where
   pub unknown : plan .function ≡ stranger
   pub nothing-said : (k : ℕ) → k < 8 → setAt plan 1 k ≡ 0
 
--- a call that can be made: a caller and an answerer, Te within its range, and a cadence that a caller starts with
+-- a call that can be made: a caller and an answerer, Te within its range, a cadence that a caller starts with, and an answer in time
 pub record Good (plan : Plan) : Type 0 where
   pub sixteen : length (plan .sets) ≡ 16
   pub caller : KnownCaller plan ⊎ Stranger plan
   pub answerer : GoodEnd plan 2
   pub te : isTe (plan .te) ≡ true
   pub cadence : isCadence (plan .on) (plan .off) ≡ true
+  pub answers : isAnswer (plan .answers) ≡ true
 
 -- 1 for each damaged bit of both ends, 0 for every other
 pub record Marks (damaged : List ℕ) : Type 0 where
@@ -80,7 +81,7 @@ PlainReadsBack =
 -- the plain form without its line for Te
 abbrev pub withoutTe : Plan → List ℕ → List ℕ → List ℕ → List ℕ
 withoutTe plan cm blocks damaged =
-    headText plan cm ++ cadenceText (plan .on) (plan .off) ++ octetsText (bytes "\nblocks   ") 0 blocks ++ damageText damaged ++ bytes "\n"
+    headText plan cm ++ cadenceText (plan .on) (plan .off) ++ answersText (plan .answers) ++ octetsText (bytes "\nblocks   ") 0 blocks ++ damageText damaged ++ bytes "\n"
 
 -- document 02, Req 01: "Without a value, Te becomes 1,000.": a text that says all of a call but Te is read as that call with a Te of 1,000
 abbrev pub TeIsTheDefault : Type 0
@@ -91,13 +92,24 @@ TeIsTheDefault =
 -- the plain form without its line for the cadence
 abbrev pub withoutCadence : Plan → List ℕ → List ℕ → List ℕ → List ℕ
 withoutCadence plan cm blocks damaged =
-    headText plan cm ++ teText (plan .te) ++ octetsText (bytes "\nblocks   ") 0 blocks ++ damageText damaged ++ bytes "\n"
+    headText plan cm ++ teText (plan .te) ++ answersText (plan .answers) ++ octetsText (bytes "\nblocks   ") 0 blocks ++ damageText damaged ++ bytes "\n"
 
 -- a text that says all of a call but the cadence is read as that call with five sequences on and 450 bit times off
 abbrev pub CadenceIsTheDefault : Type 0
 CadenceIsTheDefault =
     (plan : Plan) (cm blocks damaged : List ℕ) → Good plan → Given plan cm → Octets blocks → Marks damaged → plan .on ≡ 5 → plan .off ≡ 450
     → IsReadAs plan cm blocks damaged (withoutCadence plan cm blocks damaged)
+
+-- the plain form without its line for the answer
+abbrev pub withoutAnswer : Plan → List ℕ → List ℕ → List ℕ → List ℕ
+withoutAnswer plan cm blocks damaged =
+    headText plan cm ++ teText (plan .te) ++ cadenceText (plan .on) (plan .off) ++ octetsText (bytes "\nblocks   ") 0 blocks ++ damageText damaged ++ bytes "\n"
+
+-- a text that says all of a call but when it is answered is read as that call with ANSam from 200 ms on
+abbrev pub AnswerIsTheDefault : Type 0
+AnswerIsTheDefault =
+    (plan : Plan) (cm blocks damaged : List ℕ) → Good plan → Given plan cm → Octets blocks → Marks damaged → plan .answers ≡ 200
+    → IsReadAs plan cm blocks damaged (withoutAnswer plan cm blocks damaged)
 
 -- what any text says, in plain form
 abbrev pub plainOf : List ℕ → List ℕ

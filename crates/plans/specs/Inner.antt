@@ -10,7 +10,7 @@ use Rattle.names.specs.Names.{quality, names, namesOf}
 use Rattle.plans.specs.declared.Plan.{Plan}
 use Rattle.plans.specs.declared.Piece.{Piece}
 use Rattle.plans.specs.Reading.{setAt, missing, bitPlace, isBit}
-use Rattle.plans.specs.Plain.{functionName, functionText}
+use Rattle.plans.specs.Plain.{functionName, functionText, headText, teText, cadenceText, answersText}
 use Rattle.plans.specs.declared.Reading.{Reading}
 use Rattle.plans.specs.Text.{word, number}
 
@@ -24,6 +24,10 @@ nowhere = 18446744073709551615
 -- the place of a damaged bit that stands at a byte
 unfoldable pub bitAt : Reading → ℕ → ℕ → List ℕ → ℕ
 bitAt r scan b rest = when (isBit r scan b) (bitPlace (r .end) (number (word (b ∷ rest)))) nowhere
+
+-- all that a plan says beside the blocks and the damaged bits
+abbrev pub toldText : Plan → List ℕ → List ℕ
+toldText plan cm = headText plan cm ++ teText (plan .te) ++ cadenceText (plan .on) (plan .off) ++ answersText (plan .answers)
 
 -- what stands in the line of an end beside names
 unfoldable pub texts : List ℕ

@@ -85,7 +85,11 @@ teText te = bytes "\nTe        " ++ decimal te
 abbrev pub cadenceText : ℕ → ℕ → List ℕ
 cadenceText on off = bytes "\ncadence   " ++ decimal on ++ bytes " " ++ decimal off
 
+-- the line for the answer
+abbrev pub answersText : ℕ → List ℕ
+answersText answers = bytes "\nanswers   " ++ decimal answers
+
 -- a plan, with the octets of a CM and of blocks, and with damaged bits
 unfoldable pub plain : Plan → List ℕ → List ℕ → List ℕ → List ℕ
 plain plan cm blocks damaged =
-    headText plan cm ++ teText (plan .te) ++ cadenceText (plan .on) (plan .off) ++ octetsText (bytes "\nblocks   ") 0 blocks ++ damageText damaged ++ bytes "\n"
+    headText plan cm ++ teText (plan .te) ++ cadenceText (plan .on) (plan .off) ++ answersText (plan .answers) ++ octetsText (bytes "\nblocks   ") 0 blocks ++ damageText damaged ++ bytes "\n"

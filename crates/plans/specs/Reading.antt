@@ -12,7 +12,7 @@ use Rattle.records.specs.declared.Modes.{Modes}
 use Rattle.records.specs.declared.Record.{Record}
 use Rattle.records.specs.Record.{inUse, badRecord}
 use Rattle.cadence.specs.Cadence.{isCadence}
-use Rattle.steps.specs.Session.{isTe, defaultTe}
+use Rattle.steps.specs.Session.{between as inRange, isTe, defaultTe}
 use Rattle.plans.specs.declared.Plan.{Plan}
 use Rattle.plans.specs.declared.Answer.{Answer}
 use Rattle.plans.specs.declared.Reading.{Reading}
@@ -102,6 +102,10 @@ afterCadence = 23
 abbrev pub afterOn : ℕ
 afterOn = 24
 
+-- behind `answers`: when the answerer does
+abbrev pub afterAnswers : ℕ
+afterAnswers = 25
+
 -- the number of the names behind which octets stand: that of the line for blocks, and that of the part for a CM; no name has a number above 15
 abbrev pub octetsBehind : ℕ
 octetsBehind = 8
@@ -110,6 +114,10 @@ octetsBehind = 8
 abbrev pub cadenceBehind : ℕ
 cadenceBehind = 9
 
+-- the number of the name behind which the time of the answer stands
+abbrev pub answersBehind : ℕ
+answersBehind = 10
+
 -- the cadence of a text that gives none: half a second on, one and a half off
 abbrev pub defaultOn : ℕ
 defaultOn = 5
@@ -117,24 +125,31 @@ defaultOn = 5
 abbrev pub defaultOff : ℕ
 defaultOff = 450
 
+-- when ANSam begins in a text that gives no time: the answerer is on the line from the first on
+abbrev pub defaultAnswer : ℕ
+defaultAnswer = 200
+
 -- in place of a function: the caller's record is not known, and the text gives its CM; no function has this number
 abbrev pub stranger : ℕ
 stranger = 7
 
 -- a plan of these sets: of each end eight, the caller's first; what it wants and what its line is, then each function's modes, with 0 in the set
--- where the end has it, and last, as a number, its home function; and of no cadence
+-- where the end has it, and last, as a number, its home function; of no cadence, and of no time of the answer
 abbrev pub planned : List ℕ → ℕ → ℕ → Plan
-planned sets function te = record { sets = sets; function = function; te = te; on = 0; off = 0 }
+planned sets function te = record { sets = sets; function = function; te = te; on = 0; off = 0; answers = 0 }
 
--- a plan with other sets, with another function and Te, with another cadence
+-- a plan with other sets, with another function and Te, with another cadence, with another time of the answer
 abbrev pub withSets : Plan → List ℕ → Plan
-withSets plan sets = record { sets = sets; function = plan .function; te = plan .te; on = plan .on; off = plan .off }
+withSets plan sets = record { sets = sets; function = plan .function; te = plan .te; on = plan .on; off = plan .off; answers = plan .answers }
 
 abbrev pub withCall : Plan → ℕ → ℕ → Plan
-withCall plan function te = record { sets = plan .sets; function = function; te = te; on = plan .on; off = plan .off }
+withCall plan function te = record { sets = plan .sets; function = function; te = te; on = plan .on; off = plan .off; answers = plan .answers }
 
 abbrev pub withCadence : Plan → ℕ → ℕ → Plan
-withCadence plan on off = record { sets = plan .sets; function = plan .function; te = plan .te; on = on; off = off }
+withCadence plan on off = record { sets = plan .sets; function = plan .function; te = plan .te; on = on; off = off; answers = plan .answers }
+
+abbrev pub withAnswer : Plan → ℕ → Plan
+withAnswer plan answers = record { sets = plan .sets; function = plan .function; te = plan .te; on = plan .on; off = plan .off; answers = answers }
 
 -- a mistake, or 0 for none
 abbrev pub mistaken : Reading → ℕ → Reading
@@ -220,6 +235,17 @@ cadenced r on off context = record {
   what = r .what;
 }
 
+-- when the answerer answers, and what may come next
+unfoldable pub answering : Reading → ℕ → ℕ → Reading
+answering r answers context = record {
+  plan = withAnswer (r .plan) answers;
+  end = r .end;
+  function = r .function;
+  first = r .first;
+  context = context;
+  what = r .what;
+}
+
 -- all that is said of an end, as a sum: 0 where nothing is
 abbrev pub allSaid : Plan → ℕ → ℕ
 allSaid plan end =
@@ -259,15 +285,16 @@ isSaid plan number =
     (when (eqb number afterDamaged) false
     (when (eqb number octetsBehind) false
     (when (eqb number cadenceBehind) (ltb 0 (plan .on))
+    (when (eqb number answersBehind) (ltb 0 (plan .answers))
     (when (eqb number 1) (either (isStranger plan) (ltb 0 (setAt plan number home)))
-    (ltb 0 (setAt plan number home)))))))
+    (ltb 0 (setAt plan number home))))))))
 
 abbrev pub beginNamed : Reading → ℕ → ℕ → ℕ → Reading
 beginNamed r name end context = when (isSaid (r .plan) name) (mistaken r twice) (beginLine r end context)
 
--- what may come next behind the name of a line that is about no end: that has the number of the name, but for blocks and a cadence
+-- what may come next behind the name of a line that is about no end: that has the number of the name, but for blocks, a cadence and the answer
 abbrev pub behindName : ℕ → ℕ
-behindName name = when (eqb name octetsBehind) firstOctet (when (eqb name cadenceBehind) afterCadence name)
+behindName name = when (eqb name octetsBehind) firstOctet (when (eqb name cadenceBehind) afterCadence (when (eqb name answersBehind) afterAnswers name))
 
 -- the first word of a line
 unfoldable pub firstWord : Reading → Meaning → Reading
@@ -309,6 +336,13 @@ onWord r on = when (isOn on) (cadenced r on (r .plan .off) afterOn) (mistaken r 
 abbrev pub offWord : Reading → ℕ → Reading
 offWord r off = when (isCadence (r .plan .on) off) (cadenced r (r .plan .on) off done) (mistaken r afterOn)
 
+-- a time at which an answerer may answer
+abbrev pub isAnswer : ℕ → Bool
+isAnswer answers = inRange 200 20000 answers
+
+abbrev pub answerWord : Reading → ℕ → Reading
+answerWord r answers = when (isAnswer answers) (answering r answers done) (mistaken r afterAnswers)
+
 -- an entry of a list: none above the last that may be
 abbrev pub listed : Reading → ℕ → ℕ → ℕ → Reading
 listed r last n context = when (ltb last n) (mistaken r (r .context)) (going r context)
@@ -332,14 +366,15 @@ atOctets r = oneOf (r .context) firstOctet octets
 
 -- a number where one is asked for
 abbrev pub atNumber : Reading → Bool
-atNumber r = either (eqb (r .context) afterTe) (either (eqb (r .context) afterCadence) (either (eqb (r .context) afterOn) (atBits r)))
+atNumber r = either (eqb (r .context) afterTe) (either (eqb (r .context) afterCadence) (either (eqb (r .context) afterOn) (either (eqb (r .context) afterAnswers) (atBits r))))
 
 unfoldable pub numberWord : Reading → ℕ → Reading
 numberWord r n =
     when (eqb (r .context) afterTe) (teWord r n)
     (when (eqb (r .context) afterCadence) (onWord r n)
     (when (eqb (r .context) afterOn) (offWord r n)
-    (bitWord r n)))
+    (when (eqb (r .context) afterAnswers) (answerWord r n)
+    (bitWord r n))))
 
 unfoldable pub readWord : Reading → List ℕ → Reading
 readWord r text =
@@ -422,7 +457,8 @@ answer plan what at = record { plan = plan; what = what; at = at }
 unfoldable pub missing : Plan → ℕ
 missing plan = when (isSaid plan 1) (when (isSaid plan 2) (when (isSaid plan afterCall) 0 noCall) noAnswerer) noCaller
 
--- a plan that gives no Te has that of a start without a value, and one that gives no cadence has that of the house
+-- a plan that gives no Te has that of a start without a value, one that gives no cadence has that of the house, and
+-- without a time of the answer the answerer is on the line from the first on
 abbrev pub withDefault : Plan → Plan
 withDefault plan = record {
   sets = plan .sets;
@@ -430,6 +466,7 @@ withDefault plan = record {
   te = when (eqb (plan .te) 0) defaultTe (plan .te);
   on = when (eqb (plan .on) 0) defaultOn (plan .on);
   off = when (eqb (plan .off) 0) defaultOff (plan .off);
+  answers = when (eqb (plan .answers) 0) defaultAnswer (plan .answers);
 }
 
 -- a text that was read to its end: its last line, then what is missing

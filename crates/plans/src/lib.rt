@@ -5,6 +5,7 @@
 //     call      data
 //     Te        500
 //     cadence   5 450
+//     answers   4000
 //     blocks    05 B5 01 41 31 30
 //     damaged   caller 485 609
 //
@@ -24,9 +25,9 @@ ghost use Rattle.laws.specs.Logic.{when, both};
 ghost use Rattle.laws.specs.Front.{front};
 ghost use Rattle.printing.specs.Page.{page, typed};
 ghost use Rattle.plans.specs.Text.{wordLength, number, hexValue, octet, linesBefore, wordAt};
-ghost use Rattle.plans.specs.Reading.{mistaken, going, place, setAt, store, added, say, firstOf, isSaid, beginNamed, behindName, lacksCall, planning, cadenced, allSaid, nothingYet, partWord, nameWord, isOn, numberWord, listed, oneOf, readWord, modesOf, recordOf, recordMistake, withHome, finishEnd, finishLine, between, scanAfter, beginsWord, readByte, noPlan, fresh, answer, finished, readText, bitPlace, marked, octetAt, octetsIn, callNotHad, defaultOn, defaultOff};
-ghost use Rattle.plans.specs.Plain.{functionText, endText, entryFront, octetsText, bitsText, callerText, calledText, headText, teText, cadenceText, plain};
-ghost use Rattle.plans.specs.Inner.{Writes, homeText, frontOf, pieceText, Front, frontText, lacking, bitAt};
+ghost use Rattle.plans.specs.Reading.{mistaken, going, place, setAt, store, added, say, firstOf, isSaid, beginNamed, behindName, lacksCall, planning, cadenced, answering, allSaid, nothingYet, partWord, nameWord, isOn, isAnswer, numberWord, listed, oneOf, readWord, modesOf, recordOf, recordMistake, withHome, finishEnd, finishLine, between, scanAfter, beginsWord, readByte, noPlan, fresh, answer, finished, readText, bitPlace, marked, octetAt, octetsIn, callNotHad, defaultOn, defaultOff, defaultAnswer};
+ghost use Rattle.plans.specs.Plain.{functionText, endText, entryFront, octetsText, bitsText, callerText, calledText, headText, teText, cadenceText, answersText, plain};
+ghost use Rattle.plans.specs.Inner.{Writes, toldText, homeText, frontOf, pieceText, Front, frontText, lacking, bitAt};
 ghost use Rattle.cadence.specs.Cadence.{isCadence};
 ghost use Rattle.steps.specs.Session.{defaultTe};
 
@@ -90,11 +91,17 @@ pub const AFTER_CADENCE: u8 = 23;
 
 pub const AFTER_ON: u8 = 24;
 
+// Behind `answers`: when the answerer does.
+pub const AFTER_ANSWERS: u8 = 25;
+
 // The number of the names behind which octets stand, of the line for blocks and of the part for a CM: names have numbers below 16.
 const OCTETS_BEHIND: u8 = 8;
 
 // The number of the name behind which a cadence stands.
 const CADENCE_BEHIND: u8 = 9;
+
+// The number of the name behind which the time of the answer stands.
+const ANSWERS_BEHIND: u8 = 10;
 
 // In place of a function: the caller's record is not known, and the text gives its CM.
 pub const STRANGER: u8 = 7;
@@ -163,21 +170,30 @@ const DEFAULT_ON: u8 = 5;
 
 const DEFAULT_OFF: u16 = 450;
 
+// When ANSam begins, in milliseconds: 200 where the answerer is on the line from the first on; and at the latest, so that a rehearsal has time
+// for the call.
+pub const FIRST_ANSWER: u32 = 200;
+
+const LAST_ANSWER: u32 = 20000;
+
+const DEFAULT_ANSWER: u16 = FIRST_ANSWER as u16;
+
 // How many bits both ends have in a rehearsal.
 const BITS_OF_BOTH: usize = 2 * BIT_TIMES;
 
 // How many damaged bits or octets the plain form has in a line.
 const ENTRIES_A_LINE: usize = 16;
 
-// A call: what is said of both ends, the function of the caller or STRANGER, Te, and how many sequences CI is on and bit times off. Of each
-// end there are eight sets, the caller's first: what it wants and what its line is; each function's modes, with 0 in the set where the end
-// has it; and last, as a number, its home function.
+// A call: what is said of both ends, the function of the caller or STRANGER, Te, how many sequences CI is on and bit times off, and when the
+// answerer answers. Of each end there are eight sets, the caller's first: what it wants and what its line is; each function's modes, with 0
+// in the set where the end has it; and last, as a number, its home function.
 pub struct Plan {
     pub sets: [u16; 16],
     pub function: u8,
     pub te: u16,
     pub on: u8,
     pub off: u16,
+    pub answers: u16,
 }
 
 // A plan; or, where `what` is not 0, the first mistake of a text and its place.
@@ -401,6 +417,7 @@ fn is_said(plan: Plan, number: u8) -> bool
         AFTER_DAMAGED => false,
         OCTETS_BEHIND => false,
         CADENCE_BEHIND => 0 < plan.on,
+        ANSWERS_BEHIND => 0 < plan.answers,
         steps::CALLER => plan.function == STRANGER || 0 < set_at(plan, number, HOME),
         _ => 0 < set_at(plan, number, HOME),
     }
@@ -431,6 +448,7 @@ fn behind_name(name: u8) -> u8
     match name {
         OCTETS_BEHIND => FIRST_OCTET,
         CADENCE_BEHIND => AFTER_CADENCE,
+        ANSWERS_BEHIND => AFTER_ANSWERS,
         _ => name,
     }
 }
@@ -475,6 +493,22 @@ fn cadenced(r: Reading, on: u8, off: u16, context: u8) -> Reading
     let mut plan = r.plan;
     plan.on = on;
     plan.off = off;
+    Reading {
+        plan: plan,
+        end: r.end,
+        function: r.function,
+        first: r.first,
+        context: context,
+        what: r.what,
+    }
+}
+
+// When the answerer answers, and what may come next.
+fn answering(r: Reading, answers: u16, context: u8) -> Reading
+    ensures { λ next. ⌜ next ≡ answering r answers context ⌝ }
+{
+    let mut plan = r.plan;
+    plan.answers = answers;
     Reading {
         plan: plan,
         end: r.end,
@@ -572,7 +606,14 @@ fn is_off(on: u8, n: u32) -> bool
     n < 65536 && cadence::is_cadence(on, n as u16)
 }
 
-// A number where one is asked for: Te, the two of a cadence, or the time of a bit.
+// Whether an answerer may answer at a time.
+fn is_answer(n: u32) -> bool
+    ensures { λ r. ⌜ r ≡ isAnswer n ⌝ }
+{
+    FIRST_ANSWER <= n && n <= LAST_ANSWER
+}
+
+// A number where one is asked for: Te, the two of a cadence, the time of the answer, or that of a bit.
 fn number_word(r: Reading, n: u32) -> Reading
     ensures { λ next. ⌜ next ≡ numberWord r n ⌝ }
 {
@@ -596,6 +637,12 @@ fn number_word(r: Reading, n: u32) -> Reading
             }
             going(r, context, context)
         }
+        AFTER_ANSWERS => {
+            if is_answer(n) {
+                return answering(r, n as u16, DONE);
+            }
+            going(r, context, context)
+        }
         _ => listed(r, 8999, n, BITS),
     }
 }
@@ -607,7 +654,7 @@ fn read_word(r: Reading, word: &[u8]) -> Reading
     match context {
         AFTER_TE | AFTER_CADENCE => number_word(r, number(word)),
         FIRST_BIT | AFTER_ON => number_word(r, number(word)),
-        BITS => number_word(r, number(word)),
+        BITS | AFTER_ANSWERS => number_word(r, number(word)),
         FIRST_OCTET => listed(r, 255, octet(word), OCTETS),
         OCTETS => listed(r, 255, octet(word), OCTETS),
         _ => {
@@ -736,6 +783,7 @@ fn begin() -> Reading
             te: 0,
             on: 0,
             off: 0,
+            answers: 0,
         },
         end: 0,
         function: 0,
@@ -755,6 +803,7 @@ fn mistake(what: u8, at: usize) -> Answer
             te: 0,
             on: 0,
             off: 0,
+            answers: 0,
         },
         what: what,
         at: at,
@@ -790,6 +839,16 @@ fn off_of(off: u16) -> u16
     off
 }
 
+// When the answerer of a plan answers that gives no time.
+fn answers_of(answers: u16) -> u16
+    ensures { λ r. ⌜ r ≡ when (eqb answers 0) defaultAnswer answers ⌝ }
+{
+    if answers == 0 {
+        return DEFAULT_ANSWER;
+    }
+    answers
+}
+
 // The mistake of a text that was read to its end, or what it lacks, or 0.
 fn lacking(r: Reading) -> u8
     ensures { λ what. ⌜ what ≡ lacking r ⌝ }
@@ -822,6 +881,7 @@ fn finish(r: Reading, at: usize) -> Answer
     plan.te = te_of(plan.te);
     plan.on = on_of(plan.on);
     plan.off = off_of(plan.off);
+    plan.answers = answers_of(plan.answers);
     Answer {
         plan: plan,
         what: 0,
@@ -1248,6 +1308,24 @@ fn put_cadence(out: &mut [u8], at: usize, on: u8, off: u16) -> usize
     printing::put_decimal(out, n, off as u64)
 }
 
+// The line for the answer.
+fn put_answers(out: &mut [u8], at: usize, answers: u16) -> usize
+    ensures { λ r. ⌜ page (now (out .exit)) r ≡ typed (page (now (out .entry)) at) (answersText answers) ⌝ }
+{
+    let n = printing::put_text(out, at, b"\nanswers   ");
+    printing::put_decimal(out, n, answers as u64)
+}
+
+// All that a plan says beside the blocks and the damaged bits.
+fn put_told(out: &mut [u8], at: usize, plan: Plan, cm: &[u8]) -> usize
+    ensures { λ r. ⌜ page (now (out .exit)) r ≡ typed (page (now (out .entry)) at) (toldText plan (now (cm .entry))) ⌝ }
+{
+    let mut n = put_head(out, at, plan, cm);
+    n = put_te(out, n, plan.te);
+    n = put_cadence(out, n, plan.on, plan.off);
+    put_answers(out, n, plan.answers)
+}
+
 // A plan in its plain form: a text that is read as this plan, with every default written out.
 pub fn put_plan(
     out: &mut [u8],
@@ -1260,9 +1338,7 @@ pub fn put_plan(
     ensures { λ r. ⌜ page (now (out .exit)) r ≡ typed (page (now (out .entry)) at) (plain plan (now (cm .entry)) (now (blocks .entry)) (now (damaged .entry))) ⌝ }
 {
     let times = BIT_TIMES * (BITS_OF_BOTH <= damaged.len()) as usize;
-    let mut n = put_head(out, at, plan, cm);
-    n = put_te(out, n, plan.te);
-    n = put_cadence(out, n, plan.on, plan.off);
+    let mut n = put_told(out, at, plan, cm);
     n = put_octets(out, n, BLOCKS_LINES, BLOCKS_BLANK, blocks);
     n = put_bits(out, n, 0, CALLER_BLANK, damaged, 0, times);
     n = put_bits(

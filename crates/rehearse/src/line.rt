@@ -33,7 +33,7 @@ pub struct Made {
 
 // What a host keeps for each line: what is planned; the CM or JM of this end; one copy of it, CJ and a 1, a byte for each bit; how many bits the
 // copy has, and how many of what is sent are on the line; the bit that is sent now, or silence; the last report, and the octet of a CI that it
-// told.
+// told; whether this end is on the line.
 pub struct Line {
     pub plan: Plan,
     pub session: Session,
@@ -45,6 +45,7 @@ pub struct Line {
     pub bit: u8,
     pub told: u8,
     pub ci: u8,
+    pub there: bool,
 }
 
 // No end has this event: nothing happened.
@@ -88,6 +89,7 @@ pub fn line_start(session: Session, plan: Plan) -> Line {
         bit: 1,
         told: NOTHING,
         ci: NO_CI,
+        there: false,
     }
 }
 
@@ -138,8 +140,29 @@ fn line_step(line: Line, event: u8, value: u8, now: u32) -> Line {
     next
 }
 
-// A bit time begins: a tick, and the tone that the line card hears while the other end is in a state.
+// An end comes on the line when its session starts, which is told.
+fn line_comes(line: Line, now: u32) -> Line {
+    let session = line.session;
+    if line.there || now < session.entry {
+        return line;
+    }
+    let mut next = line;
+    next.there = true;
+    ladder::entered(next, now);
+    next
+}
+
+// A bit time begins: a tick, and the tone that the line card hears while the other end is in a state. An end that is not on the line yet gets
+// neither.
 pub fn line_tick(line: Line, other: Session, now: u32) -> Line {
+    let here = line_comes(line, now);
+    if here.there {
+        return line_events(here, other, now);
+    }
+    here
+}
+
+fn line_events(line: Line, other: Session, now: u32) -> Line {
     let state = other.state;
     let tone = match state {
         steps::ANSWERING => steps::ANSAM,
@@ -197,10 +220,15 @@ fn cadence_bit(line: Line, now: u32) -> Line {
     next
 }
 
-// The next bit to the line.
+// The next bit to the line; silence where this end is not on it yet.
 pub fn line_bit(line: Line, now: u32) -> Line {
     let session = line.session;
     let state = session.state;
+    if !line.there {
+        let mut absent = line;
+        absent.bit = cadence::SILENCE;
+        return absent;
+    }
     match state {
         steps::CALLING => cadence_bit(line, now),
         _ => copy_bit(line, now),
@@ -345,10 +373,10 @@ fn octets_in(octets: &[u8; MOST_OCTETS], len: u8, told: u8) -> &[u8] {
 }
 
 // A bit from the line, or silence, which the listener does not get; what it reports behind that is told anew. An end that is over hears
-// nothing: its line is in another modulation, or cleared.
+// nothing: its line is in another modulation, or cleared. Nor does one that is not on the line yet.
 pub fn line_hear(line: Line, bit: u8, now: u32) -> Line {
     let session = line.session;
-    if session.state == steps::OVER {
+    if session.state == steps::OVER || !line.there {
         return line;
     }
     if bit == cadence::SILENCE {

@@ -18,6 +18,7 @@ use plans::Plan;
 use refusals::Refusal;
 use refusals::Verdict;
 use refusals::Wrote;
+use std::num::wrapping_sub_u32;
 use steps::Session;
 use steps::Started;
 use words::Text;
@@ -46,7 +47,7 @@ const DATA: u8 = 6;
 const LINE_BITS: usize = 2 * plans::BIT_TIMES;
 
 // How many lines say what a call text looks like.
-const HELP_LINES: u8 = 27;
+const HELP_LINES: u8 = 28;
 
 // Room, with a promise of its length: where a large array is made, its length takes long to prove.
 fn room() -> [u8; ROOM]
@@ -101,12 +102,15 @@ fn is_over(ends: Ends) -> bool {
     ends.caller.session.state == steps::OVER && ends.answerer.session.state == steps::OVER
 }
 
+// When the answerer comes on the line: it is still before it answers.
+fn comes(plan: Plan) -> u32 {
+    wrapping_sub_u32(plan.answers as u32, plans::FIRST_ANSWER)
+}
+
 // Runs the call until both ends are over, or the time is.
 fn run(plan: Plan, first: Session, cm: Made, damaged: &[u8]) -> Ends {
     let caller = line::with_menu(line::line_start(first, plan), cm);
-    let answerer = line::line_start(steps::start_answerer(0), plan);
-    ladder::entered(caller, 0);
-    ladder::entered(answerer, 0);
+    let answerer = line::line_start(steps::start_answerer(comes(plan)), plan);
     let mut ends = Ends {
         caller: caller,
         answerer: answerer,

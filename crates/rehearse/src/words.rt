@@ -60,17 +60,17 @@ pub const BEHIND_WORD: u8 = 146;
 
 pub const MISTAKES: u8 = 147;
 
-pub const TOO_LONG: u8 = 172;
+pub const TOO_LONG: u8 = 173;
 
-pub const UNMADE: u8 = 173;
+pub const UNMADE: u8 = 174;
 
-pub const WITH_BLOCKS: u8 = 175;
+pub const WITH_BLOCKS: u8 = 176;
 
-pub const UNSENT: u8 = 176;
+pub const UNSENT: u8 = 177;
 
-pub const HEADING: u8 = 177;
+pub const HEADING: u8 = 178;
 
-pub const HELP: u8 = 178;
+pub const HELP: u8 = 179;
 
 // A text with nothing in it.
 pub fn blank() -> Text {
@@ -323,6 +323,7 @@ expected an octet, two hex digits
 a CM that is sent as it is stands alone in the line of the caller, and no function is called
 expected how many CI sequences an on period has, a number from 3 to 20
 expected how many bit times an off period has, a number from 120 to 600
+expected when the answerer answers, in milliseconds, a number from 200 to 20000
 the text is longer than 131071 bytes
 the blocks do not fit into a CM of 64 octets
 the octets are not blocks: a block is longer than what remains, or a code does not fit in it
@@ -337,11 +338,12 @@ A call text says what both ends can do, and what the caller calls for:
 
 An end has functions, each with its modulations behind it. The first is its home function, or the one
 behind 'home'. Further lines may be there too: Te in milliseconds; the cadence of CI, in sequences on
-and bit times off; octets of the caller's own blocks, in hex digits; and bits that arrive inverted, where
-bit n is sent n * 10 / 3 ms after the call began:
+and bit times off; when the answerer answers, in milliseconds; octets of the caller's own blocks, in hex
+digits; and bits that arrive inverted, where bit n is sent n * 10 / 3 ms after the call began:
 
     Te        500
     cadence   5 450
+    answers   4000
     blocks    05 B5 01 41 31 30
     damaged   caller 485 609
 

@@ -15,7 +15,7 @@ abbrev Inv-loop : tie.InvT-loop
 Inv-loop word names at₀ at = (at % 22 ≡ 0) × (named word ≡ namedBy (from at) word)
 
 abbrev μ-loop : tie.MeasureT-loop
-μ-loop word names at₀ at = 880 - at
+μ-loop word names at₀ at = 902 - at
 
 table-requires : tie.Need-table-requires Inv-loop μ-loop
 table-requires c κs = tt

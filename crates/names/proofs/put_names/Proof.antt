@@ -17,7 +17,7 @@ abbrev Inv-loop : tie.InvT-loop
 Inv-loop out₀ at kind set rows n₀ i₀ out n i = (i % 22 ≡ 0) × (typed (page out n) (namesOf kind set (from i)) ≡ typed (page out₀ at) (namesOf kind set names)) × (length out ≡ length out₀)
 
 abbrev μ-loop : tie.MeasureT-loop
-μ-loop out₀ at kind set rows n₀ i₀ out n i = 880 - i
+μ-loop out₀ at kind set rows n₀ i₀ out n i = 902 - i
 
 table-requires : tie.Need-table-requires Inv-loop μ-loop
 table-requires c κs = tt

@@ -15,7 +15,11 @@ returns-2 c = simp (c .match .keys2)
 
 returns-3 : tie.Need-returns-3
 unfolding when
-returns-3 c = let none = c .match .rest in simp (ne-eqb _ _ (none .0 .1), ne-eqb _ _ (none .1))
+returns-3 c = simp (c .match .keys3)
+
+returns-4 : tie.Need-returns-4
+unfolding when
+returns-4 c = let none = c .match .rest in simp (ne-eqb _ _ (none .0 .0 .1), ne-eqb _ _ (none .0 .1), ne-eqb _ _ (none .1))
 
 pub behind-name-spec : {M : Type 1} → statement M
-behind-name-spec = tie.close (tie.spec returns returns-2 returns-3)
+behind-name-spec = tie.close (tie.spec returns returns-2 returns-3 returns-4)

@@ -29,11 +29,14 @@ on-of-requires c κs = search needs
 off-of-requires : tie.Need-off-of-requires
 off-of-requires c κs = search needs
 
+answers-of-requires : tie.Need-answers-of-requires
+answers-of-requires c κs = search needs
+
 returns-2 : tie.Need-returns-2
 returns-2 c =
-    let start = c .before .before .before .before .before .before .before in
-    simp (c .before .before .te-of .ensures, c .before .on-of .ensures, c .off-of .ensures)
-    (sym (finish-right (start .args .r) _ _ (start .args .at) (c .before .before .before .before .before .before .finish-line .ensures) (c .before .before .before .before .before .lacking .ensures) (c .before .before .before .before .if1 .left)))
+    let start = c .before .before .before .before .before .before .before .before in
+    simp (c .before .before .before .te-of .ensures, c .before .before .on-of .ensures, c .before .off-of .ensures, c .answers-of .ensures)
+    (sym (finish-right (start .args .r) _ _ (start .args .at) (c .before .before .before .before .before .before .before .finish-line .ensures) (c .before .before .before .before .before .before .lacking .ensures) (c .before .before .before .before .before .if1 .left)))
 
 pub finish-spec : {M : Type 1} → statement M
 finish-spec =
@@ -46,4 +49,5 @@ finish-spec =
     te-of-requires
     on-of-requires
     off-of-requires
+    answers-of-requires
     returns-2)

@@ -34,16 +34,20 @@ unfolding when isSaid
 returns-5 c = simp (c .before .match .keys5)
 
 returns-6 : tie.Need-returns-6
-unfolding when isSaid either
-returns-6 c = simp (c .before .before .match .keys6, eq-eqb _ _ (c .if1 .taken))
+unfolding when isSaid
+returns-6 c = simp (c .before .match .keys6)
 
 returns-7 : tie.Need-returns-7
 unfolding when isSaid either
-returns-7 c = simp (c .set-at .ensures, c .before .before .before .match .keys6, ne-eqb _ _ (c .before .if1 .left))
+returns-7 c = simp (c .before .before .match .keys7, eq-eqb _ _ (c .if1 .taken))
 
 returns-8 : tie.Need-returns-8
+unfolding when isSaid either
+returns-8 c = simp (c .set-at .ensures, c .before .before .before .match .keys7, ne-eqb _ _ (c .before .if1 .left))
+
+returns-9 : tie.Need-returns-9
 unfolding when isSaid
-returns-8 c = let none = c .before .match .rest in simp (c .set-at2 .ensures, ne-eqb _ _ (none .0 .0 .0 .0 .0 .1), ne-eqb _ _ (none .0 .0 .0 .0 .1), ne-eqb _ _ (none .0 .0 .0 .1), ne-eqb _ _ (none .0 .0 .1), ne-eqb _ _ (none .0 .1), ne-eqb _ _ (none .1))
+returns-9 c = let none = c .before .match .rest in simp (c .set-at2 .ensures, ne-eqb _ _ (none .0 .0 .0 .0 .0 .0 .1), ne-eqb _ _ (none .0 .0 .0 .0 .0 .1), ne-eqb _ _ (none .0 .0 .0 .0 .1), ne-eqb _ _ (none .0 .0 .0 .1), ne-eqb _ _ (none .0 .0 .1), ne-eqb _ _ (none .0 .1), ne-eqb _ _ (none .1))
 
 pub is-said-spec : {M : Type 1} → statement M
-is-said-spec = tie.close (tie.spec set-at-requires set-at-requires-2 returns returns-2 returns-3 returns-4 returns-5 returns-6 returns-7 returns-8)
+is-said-spec = tie.close (tie.spec set-at-requires set-at-requires-2 returns returns-2 returns-3 returns-4 returns-5 returns-6 returns-7 returns-8 returns-9)

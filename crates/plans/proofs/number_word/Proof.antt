@@ -59,24 +59,44 @@ returns-3 c = simp (c .cadenced2 .ensures, c .before .before .before .match .key
 going-requires-3 : tie.Need-going-requires-3
 going-requires-3 c κs = search needs
 
-listed-requires : tie.Need-listed-requires
-listed-requires c κs = search needs
+is-answer-requires : tie.Need-is-answer-requires
+is-answer-requires c κs = search needs
+
+cast-answering : tie.Need-cast-answering
+cast-answering c = fits-below tt (between-true 200 20000 _ (sym (c .before .is-answer .ensures) ∙ c .if4 .taken) .1)
+
+answering-requires : tie.Need-answering-requires
+answering-requires c κs = search needs
 
 returns-4 : tie.Need-returns-4
 unfolding numberWord when
-returns-4 c = simp (c .going .ensures, c .before .before .before .match .keys1, sym (c .before .before .is-te .ensures) ∙ c .before .if1 .left)
+returns-4 c = simp (c .answering .ensures, c .before .before .before .match .keys4, sym (c .before .before .is-answer .ensures) ∙ c .before .if4 .taken)
+
+going-requires-4 : tie.Need-going-requires-4
+going-requires-4 c κs = search needs
+
+listed-requires : tie.Need-listed-requires
+listed-requires c κs = search needs
 
 returns-5 : tie.Need-returns-5
 unfolding numberWord when
-returns-5 c = simp (c .going2 .ensures, c .before .before .before .match .keys2, sym (c .before .before .is-on .ensures) ∙ c .before .if2 .left)
+returns-5 c = simp (c .going .ensures, c .before .before .before .match .keys1, sym (c .before .before .is-te .ensures) ∙ c .before .if1 .left)
 
 returns-6 : tie.Need-returns-6
 unfolding numberWord when
-returns-6 c = simp (c .going3 .ensures, c .before .before .before .match .keys3, sym (c .before .before .is-off .ensures) ∙ c .before .if3 .left)
+returns-6 c = simp (c .going2 .ensures, c .before .before .before .match .keys2, sym (c .before .before .is-on .ensures) ∙ c .before .if2 .left)
 
 returns-7 : tie.Need-returns-7
 unfolding numberWord when
-returns-7 c = let none = c .before .match .rest in simp (c .listed .ensures, ne-eqb _ _ (none .0 .0 .1), ne-eqb _ _ (none .0 .1), ne-eqb _ _ (none .1))
+returns-7 c = simp (c .going3 .ensures, c .before .before .before .match .keys3, sym (c .before .before .is-off .ensures) ∙ c .before .if3 .left)
+
+returns-8 : tie.Need-returns-8
+unfolding numberWord when
+returns-8 c = simp (c .going4 .ensures, c .before .before .before .match .keys4, sym (c .before .before .is-answer .ensures) ∙ c .before .if4 .left)
+
+returns-9 : tie.Need-returns-9
+unfolding numberWord when
+returns-9 c = let none = c .before .match .rest in simp (c .listed .ensures, ne-eqb _ _ (none .0 .0 .0 .1), ne-eqb _ _ (none .0 .0 .1), ne-eqb _ _ (none .0 .1), ne-eqb _ _ (none .1))
 
 pub number-word-spec : {M : Type 1} → statement M
 number-word-spec =
@@ -97,8 +117,14 @@ number-word-spec =
     cadenced-requires-2
     returns-3
     going-requires-3
-    listed-requires
+    is-answer-requires
+    cast-answering
+    answering-requires
     returns-4
+    going-requires-4
+    listed-requires
     returns-5
     returns-6
-    returns-7)
+    returns-7
+    returns-8
+    returns-9)

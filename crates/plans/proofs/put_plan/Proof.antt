@@ -1,4 +1,4 @@
--- `plans::put_plan` meets its contract: the ends and the call, Te, the cadence, the blocks, the damaged bits and a line feed are the plain form.
+-- `plans::put_plan` meets its contract: what is told beside lists, the blocks, the damaged bits and a line feed are the plain form.
 -- Assumes nothing.
 use borrow.Author.Needs.{needs}
 use native.Mathlib.Omega.{arith}
@@ -19,23 +19,17 @@ cast-times c = search needs
 mul-times : tie.Need-mul-times
 mul-times c = fits-below {n = 9000} tt (bits-within (length (now (c .before .before .before .before .args .damaged))) .0)
 
-put-head-requires : tie.Need-put-head-requires
-put-head-requires c κs = tt
-
-put-te-requires : tie.Need-put-te-requires
-put-te-requires c κs = tt
-
-put-cadence-requires : tie.Need-put-cadence-requires
-put-cadence-requires c κs = tt
+put-told-requires : tie.Need-put-told-requires
+put-told-requires c κs = tt
 
 put-octets-requires : tie.Need-put-octets-requires
 put-octets-requires c κs = blocks-front
 
 put-bits-requires : tie.Need-put-bits-requires
-put-bits-requires c κs = let within = bits-within (length (now (c .before .before .before .before .before .before .before .before .before .before .before .before .before .before .before .before .before .before .before .before .before .args .damaged))) in (caller-bits-front, (within .0, omega (arith, within .1)))
+put-bits-requires c κs = let within = bits-within (length (now (c .before .before .before .before .before .before .before .before .before .before .before .before .before .args .damaged))) in (caller-bits-front, (within .0, omega (arith, within .1)))
 
 put-bits-requires-2 : tie.Need-put-bits-requires-2
-put-bits-requires-2 c κs = let within = bits-within (length (now (c .before .before .before .before .before .before .before .before .before .before .before .before .before .before .before .before .before .before .before .before .before .before .before .before .before .args .damaged))) in (answerer-bits-front, (within .0, within .1))
+put-bits-requires-2 c κs = let within = bits-within (length (now (c .before .before .before .before .before .before .before .before .before .before .before .before .before .before .before .before .before .args .damaged))) in (answerer-bits-front, (within .0, within .1))
 
 slice-aggregate-put-text : tie.Need-slice-aggregate-put-text
 slice-aggregate-put-text c = search needs
@@ -49,11 +43,9 @@ same-length c = search needs
 returns : tie.Need-returns
 unfolding bytes
 returns c =
-    let start = c .before .before .before .before .before .before .before .before .before .before .before .before .before .before .before .before .before .before .before .before .before .before .before .before .before .before .before .before .before .before .before .before .before in
+    let start = c .before .before .before .before .before .before .before .before .before .before .before .before .before .before .before .before .before .before .before .before .before .before .before .before .before in
     let here = page (now (start .args .out)) (start .args .at) in
-    let with-te = typed-then here _ _ (c .before .before .before .before .before .before .before .before .before .before .before .before .before .before .before .before .before .before .before .before .before .before .before .before .before .before .before .put-head .ensures) (c .before .before .before .before .before .before .before .before .before .before .before .before .before .before .before .before .before .before .before .before .before .before .before .put-te .ensures) in
-    let with-cadence = typed-then here _ _ with-te (c .before .before .before .before .before .before .before .before .before .before .before .before .before .before .before .before .before .before .before .put-cadence .ensures) in
-    typed-then here _ _ (typed-then here _ _ (typed-then here _ _ (typed-then here _ _ with-cadence (c .before .before .before .before .before .before .before .before .before .before .before .before .before .before .before .put-octets .ensures)) (c .before .before .before .before .before .before .before .before .before .before .before .put-bits .ensures)) (c .before .before .before .before .before .before .before .put-bits2 .ensures)) (c .before .before .put-text .ensures)
+    typed-then here _ _ (typed-then here _ _ (typed-then here _ _ (typed-then here _ _ (c .before .before .before .before .before .before .before .before .before .before .before .before .before .before .before .before .before .before .before .put-told .ensures) (c .before .before .before .before .before .before .before .before .before .before .before .before .before .before .before .put-octets .ensures)) (c .before .before .before .before .before .before .before .before .before .before .before .put-bits .ensures)) (c .before .before .before .before .before .before .before .put-bits2 .ensures)) (c .before .before .put-text .ensures)
     ∙ ap (typed here) (plain-in-pieces (start .args .plan) (now (start .args .cm)) (now (start .args .blocks)) (now (start .args .damaged)))
 
 pub put-plan-spec : {M : Type 1} → statement M
@@ -62,9 +54,7 @@ put-plan-spec =
     (tie.spec
     cast-times
     mul-times
-    put-head-requires
-    put-te-requires
-    put-cadence-requires
+    put-told-requires
     put-octets-requires
     put-bits-requires
     put-bits-requires-2

@@ -6,10 +6,10 @@ use Rattle.rehearse.proofs.help.Statement.{statement}
 use Rattle.rehearse.proofs.help.Tie as tie
 
 abbrev Inv-loop : tie.InvT-loop
-Inv-loop i₀ i = i ≤ 27
+Inv-loop i₀ i = i ≤ 28
 
 abbrev μ-loop : tie.MeasureT-loop
-μ-loop i₀ i = 27 - i
+μ-loop i₀ i = 28 - i
 
 loop-holds : tie.Need-loop-holds Inv-loop μ-loop
 loop-holds c = search needs

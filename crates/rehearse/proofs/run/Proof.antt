@@ -17,17 +17,14 @@ line-start-requires c κs = search needs
 with-menu-requires : tie.Need-with-menu-requires Inv-loop μ-loop
 with-menu-requires c κs = search needs
 
+comes-requires : tie.Need-comes-requires Inv-loop μ-loop
+comes-requires c κs = search needs
+
 start-answerer-requires : tie.Need-start-answerer-requires Inv-loop μ-loop
 start-answerer-requires c κs = search needs
 
 line-start-requires-2 : tie.Need-line-start-requires-2 Inv-loop μ-loop
 line-start-requires-2 c κs = search needs
-
-entered-requires : tie.Need-entered-requires Inv-loop μ-loop
-entered-requires c κs = search needs
-
-entered-requires-2 : tie.Need-entered-requires-2 Inv-loop μ-loop
-entered-requires-2 c κs = search needs
 
 loop-holds : tie.Need-loop-holds Inv-loop μ-loop
 loop-holds c = search needs
@@ -61,10 +58,9 @@ run-spec =
     μ-loop
     line-start-requires
     with-menu-requires
+    comes-requires
     start-answerer-requires
     line-start-requires-2
-    entered-requires
-    entered-requires-2
     loop-holds
     bit-time-requires
     is-over-requires
