@@ -16,7 +16,7 @@ pieces=(1 7 2 31 1 64 10)
 heading='   ms  caller                                                                         answerer'
 
 # The names, as the texts list them.
-lines='caller answerer call Te damaged blocks cadence'
+lines='caller answerer call Te damaged blocks cadence answers'
 functions='H.324 textphone videotex fax-sent fax-received data'
 modes='V.34 V.34-half-duplex V.32bis V.22bis V.17 V.29-half-duplex V.27ter V.26ter V.26bis V.23 V.23-half-duplex V.21'
 modes+=' PCM-analogue PCM-digital V.91'
@@ -53,6 +53,7 @@ mistakes=(
     'a CM that is sent as it is stands alone in the line of the caller, and no function is called'
     'expected how many CI sequences an on period has, a number from 3 to 20'
     'expected how many bit times an off period has, a number from 120 to 600'
+    'expected when the answerer answers, in milliseconds, a number from 200 to 20000'
 )
 
 # Why CM cannot be made with the blocks of a plan.
@@ -118,7 +119,7 @@ sends() {
     text "$answerer\ncaller sends $2"
     "$program" <"$work/input" >"$work/first"
     status=$?
-    printf 'caller    sends %s\nanswerer  data V.32bis V.22bis V.26ter, home data\nTe        1000\ncadence   5 450\n' "${2^^}" >"$work/expected"
+    printf 'caller    sends %s\nanswerer  data V.32bis V.22bis V.26ter, home data\nTe        1000\ncadence   5 450\nanswers   200\n' "${2^^}" >"$work/expected"
     plan <"$work/first" >"$work/printed"
     compare "$1" "$work/expected" "$status"
     printf '%s\n' "$3" >"$work/expected"
@@ -146,6 +147,14 @@ calls() {
     text "$2"
     for row in "${@:3}"; do printf '%s\n' "$row"; done >"$work/expected"
     "$program" <"$work/input" | sed -nE '/ CI /{s/^ *[0-9]+ +//;s/ -+>$//;s/ +/ /g;p}' >"$work/printed"
+    compare "$1" "$work/expected" "${PIPESTATUS[0]}"
+}
+
+# quiet NAME ANSWERS TIME: a call that is answered at a time, and when its caller is quiet.
+quiet() {
+    text "${whole}answers $2"
+    printf '%s\n' "$3" >"$work/expected"
+    "$program" <"$work/input" | sed -nE 's/^ *([0-9]+)  quiet$/\1/p' >"$work/printed"
     compare "$1" "$work/expected" "${PIPESTATUS[0]}"
 }
 
@@ -182,6 +191,7 @@ sound() {
             i = stranger ? 3 : 4
             if (line[i] !~ /^Te        [0-9]+$/) return wrong("no Te: " line[i])
             if (line[++i] !~ /^cadence   [0-9]+ [0-9]+$/) return wrong("no cadence: " line[i])
+            if (line[++i] !~ /^answers   [0-9]+$/) return wrong("no answer: " line[i])
             for (i++; line[i] ~ /^blocks   ( [0-9A-F][0-9A-F])+$/; i++) ;
             for (; line[i] ~ /^damaged   (caller|answerer)( [0-9]+)+$/; i++) ;
             if (line[i] != "" || line[i + 1] != heading) return wrong("no heading: " line[i])
@@ -231,7 +241,7 @@ same 'Te written out' "${whole}Te 1000\n"
 same 'Te with leading zeros' "Te 001000\n$whole"
 same 'other names of modes' "${caller//bis/}\nanswerer data V.32 V.22 V.26ter\ncall data"
 text "damaged answerer 0\n${whole}damaged caller 8999, 0\nDamaged Answerer 00 0\n"
-sed '/^cadence/a damaged   caller 0 8999\ndamaged   answerer 0' "$calls/v32bis.timeline" >"$work/expected"
+sed '/^answers/a damaged   caller 0 8999\ndamaged   answerer 0' "$calls/v32bis.timeline" >"$work/expected"
 check "$program" 'damage that hits no bit that counts' "$work/input" "$work/expected" "${pieces[@]}"
 
 # The caller is quiet from 1,300 ms on. A Te that a line gives is kept: with 500 for 1,000, CM and all that follows come half a second sooner.
@@ -258,9 +268,9 @@ tail=' home fax-sent, wants LAPM, wants access, cellular digital'
 reversed=' digital cellular wants access wants LAPM home fax-sent'
 understood 'every name, in upper and in lower case' \
     "CALLER${every_function^^}${tail^^}\nanswerer$reversed${every_function,,}\ncall textphone\nTe 5000" \
-    "caller   $every_function$tail\nanswerer $every_function$tail\ncall      textphone\nTe        5000\ncadence   5 450"
+    "caller   $every_function$tail\nanswerer $every_function$tail\ncall      textphone\nTe        5000\ncadence   5 450\nanswers   200"
 understood 'the first function is the home function' "answerer videotex, H.324\ncaller data, textphone V.21\ncall textphone" \
-    'caller    textphone V.21, data, home data\nanswerer  H.324, videotex, home videotex\ncall      textphone\nTe        1000\ncadence   5 450'
+    'caller    textphone V.21, data, home data\nanswerer  H.324, videotex, home videotex\ncall      textphone\nTe        1000\ncadence   5 450\nanswers   200'
 understood 'sixteen damaged bits in a line' "damaged caller $(seq -s ' ' 17 -1 1)\n${whole}damaged answerer $(seq -s ' ' 16)" \
     "$(plan <"$calls/v32bis.timeline")\ndamaged   caller $(seq -s ' ' 16)\ndamaged   caller 17\ndamaged   answerer $(seq -s ' ' 16)"
 understood 'octets in upper and lower case, in lines that stand anywhere' \
@@ -330,6 +340,8 @@ refuses 'a second caller' "$whole$caller\n" "line 4, 'caller'" 11
 refuses 'a second answerer' "$answerer\n\nANSWERER" "line 3, 'ANSWERER'" 11
 refuses 'a second call' "call data\ncall data\n" "line 2, 'call'" 11
 refuses 'a second Te' "Te 500\n${whole}Te 500" "line 5, 'Te'" 11
+refuses 'two times of the answer' 'answers 200 300' "line 1, '300'" 10
+refuses 'a second time of the answer' "answers 200\n${whole}Answers 200" "line 5, 'Answers'" 11
 refuses 'a second cadence' "Cadence 5 450\n${whole}cadence 5 450" "line 5, 'cadence'" 11
 refuses 'a function twice' "caller data V.34, videotex, DATA V.21" "line 1, 'DATA'" 11
 refuses 'a modulation twice' 'caller data V.34 V.21 v.34' "line 1, 'v.34'" 11
@@ -401,6 +413,12 @@ refuses '65986 bit times off, which are 450 in 16 bits' 'cadence 5 65986' "line 
 refuses 'an off period with its unit' 'cadence 5 450ms' "line 1, '450ms'" 24
 refuses 'an on period alone' "cadence 5\n$whole" 'line 1, at its end' 24
 refuses 'an on period alone at the end of the text' "${whole}cadence 5," 'line 4, at its end' 24
+refuses 'an answer in a word' 'answers late' "line 1, 'late'" 25
+refuses 'an answer at 199' "$caller\nanswers 199" "line 2, '199'" 25
+refuses 'an answer at 20001' 'answers 20001' "line 1, '20001'" 25
+refuses 'an answer at 65736, which is 200 in 16 bits' 'answers 65736' "line 1, '65736'" 25
+refuses 'answers at the end of a line' "answers\n200" 'line 1, at its end' 25
+refuses 'answers at the end of the text' "${whole}answers" 'line 4, at its end' 25
 refuses 'the first of two wrong lines' "call x\nTe y\n" "line 1, 'x'" 5
 refuses 'the first of two wrong words' 'caller data V.90 LAPM' "line 1, 'V.90'" 2
 refuses 'a word, then what is wrong with the end' 'answerer data PCM-digital V.90' "line 1, 'V.90'" 2
@@ -408,8 +426,8 @@ refuses 'a home function, then PCM' 'caller data PCM-digital home H.324' 'line 1
 refuses 'PCM, then the function of the call' "call videotex\ncaller data PCM-digital\n" 'line 2, at its end' 15
 refuses 'a wrong line before what is missing' "$caller\nTe 400" "line 2, '400'" 6
 refuses 'the function of the call, then what is missing' "$caller\ncall H.324" "line 2, 'H.324'" 19
-if [ "${#tried[@]}" -ne 24 ]; then
-    printf 'mistakes that no text is tried for: %s of 24 are\n' "${#tried[@]}"
+if [ "${#tried[@]}" -ne 25 ]; then
+    printf 'mistakes that no text is tried for: %s of 25 are\n' "${#tried[@]}"
     differ=$((differ + 1))
 fi
 
@@ -436,7 +454,7 @@ check "$program" '36 octets behind every group' "$work/input" "$work/expected" "
 # The CM of v32bis.call as a stranger sends it: the same ladder, below another plan. The lines come in any order, words in any letters.
 strangers='C1 45 13 90 2A'
 sed -e "s/^caller    .*/caller    sends $strangers/" -e '/^call /d' "$calls/v32bis.timeline" >"$work/strangers"
-for said in "caller sends $strangers\n$answerer" "Te 1000\nCADENCE 05,0450\n$answerer\n# a stranger\nCALLER, SENDS ${strangers,,}" \
+for said in "caller sends $strangers\n$answerer" "Te 1000\nCADENCE 05,0450\nanswers 0200\n$answerer\n# a stranger\nCALLER, SENDS ${strangers,,}" \
     "$answerer\n\tcaller\tSends  ${strangers// /,} # 00\r\n"; do
     text "$said"
     check "$program" 'the CM of a record, as a stranger sends it' "$work/input" "$work/strangers" "${pieces[@]}"
@@ -446,7 +464,7 @@ sends 'a CM for a function that the answerer has not' '21 45' 'CM H.324: V.34  2
 sends 'no function has the number of this one' 'E1 05' 'CM  E1 05'
 sends 'more than sixteen octets are in one line' "C1 05 10 10 $(printf '2A %.0s' {1..20})0D" 'CM data, LAPM, access  C1 05 10 10 2A 2A 2A 2A 2A 2A 2A 2A 2A'
 understood '64 octets' "$answerer\ncaller sends C1$(printf ' 2A%.0s' {1..63})" \
-    "caller    sends C1$(printf ' 2A%.0s' {1..63})\nanswerer  data V.32bis V.22bis V.26ter, home data\nTe        1000\ncadence   5 450"
+    "caller    sends C1$(printf ' 2A%.0s' {1..63})\nanswerer  data V.32bis V.22bis V.26ter, home data\nTe        1000\ncadence   5 450\nanswers   200"
 unsendable '65 octets' "C1$(printf ' 2A%.0s' {1..64})" "$unsent 4"
 unsendable '256 octets, the first of which is no call function' "$every_octet" "$unsent 4"
 unsendable 'no call function' '45' "$unsent 5"
@@ -493,6 +511,26 @@ calls 'the second CI is damaged' "${whole}damaged caller 357" 'calling CI data C
 calls 'each CI is damaged in the same way' "${whole}damaged caller 327 357 387" 'calling CI data C1' 'CI fax-sent 81 hears'
 calls 'the sync of each CI is damaged' "${whole}damaged caller 312 342 372" 'calling CI data C1'
 calls 'what is refused parts two CIs that are alike' "${whole}damaged caller 350" 'calling CI data C1' 'CI data C1 hears' 'CI data C1 hears'
+
+# The first on period is from bit 300, at 1000, to bit 449, and the next begins with bit 900. The caller hears ANSam one bit behind the time of
+# the answer: before the third sequence is sent, between two, within one, behind the last of an on period, in silence, and with the first bit of the
+# next on period.
+quiet 'ANSam before the caller calls' 200 1300
+quiet 'ANSam within the first sequence' 1050 1300
+quiet 'ANSam with the last bit of the third' 1293 1300
+quiet 'ANSam behind the third sequence' 1296 1300
+quiet 'ANSam with the first bit of the fourth' 1300 1400
+quiet 'ANSam with the last bit of an on period' 1493 1500
+quiet 'ANSam behind an on period' 1496 1500
+quiet 'ANSam in silence' 2000 2003
+quiet 'ANSam with the last silence' 2993 2996
+quiet 'ANSam behind the silence' 2996 3000
+quiet 'ANSam with the first bit of the second on period' 3000 3100
+late="${whole}cadence 3 120\nanswers 4000"
+calls 'CI in every on period, and what a late answerer hears of it' "$late" 'calling CI data C1' 'calling CI data C1' 'calling CI data C1' 'calling CI data C1' \
+    'calling CI data C1' 'CI data C1 hears'
+calls 'damage in silence changes nothing' "$late\ndamaged caller $(seq -s ' ' 390 509)" 'calling CI data C1' 'calling CI data C1' 'calling CI data C1' \
+    'calling CI data C1' 'calling CI data C1' 'CI data C1 hears'
 
 # No text gets the help, with every name in it.
 "$program" </dev/null >"$work/printed"
@@ -552,6 +590,7 @@ random_call() {
             print end("answerer", 1 + below(6))
             if (below(2)) print "Te " 500 + below(4501)
             if (below(2)) print "cadence " 3 + below(18) " " 120 + below(481)
+            if (below(3) == 0) print "answers " 200 + below(6000)
             for (i = stranger ? 0 : below(4); i > 0; i--) {
                 provider = below(3); rest = below(5)
                 printf "blocks %02x %02X %02X", 2 + provider + rest, below(255), provider
@@ -587,7 +626,7 @@ random() {
     }' "$@"
 }
 mapfile -t bytes < <(LC_ALL=C awk 'BEGIN { for (i = 1; i < 256; i++) if (i != 10) printf "%c\n", i }')
-read -ra words <<<"$lines $functions $modes $other_modes $parts $wanted $qualities $access 500 0 8999 9000 5 450 02 b5 00 c1 45 # ,"
+read -ra words <<<"$lines $functions $modes $other_modes $parts $wanted $qualities $access 500 0 8999 9000 5 450 200 02 b5 00 c1 45 # ,"
 for ((n = 1; n <= 40; n++)); do
     random "$n" $((n * n * 31)) '' "${bytes[@]}" $'\n' >"$work/input"
     survives "random bytes, run $n"
@@ -595,7 +634,7 @@ for ((n = 1; n <= 40; n++)); do
     survives "random words, run $n"
     { printf 'answerer data\ncaller '; random "$n" $((1 + n / 4)) ' ' sends C1 c1 45 10 2A 18 $'\n' caller data; } >"$work/input"
     survives "random words of a stranger, run $n"
-    { printf '%b' "$whole"; random "$n" "$n" $'\n' 'damaged caller 320 700 771' 'damaged answerer 850' 'cadence 3 120' 'cadence 20' 'blocks 03 b5' 'blocks 00 02' 'blocks 02 B5 00' '# Te' ''; } >"$work/input"
+    { printf '%b' "$whole"; random "$n" "$n" $'\n' 'damaged caller 320 700 771' 'damaged answerer 850' 'cadence 3 120' 'cadence 20' 'answers 4000' 'blocks 03 b5' 'blocks 00 02' 'blocks 02 B5 00' '# Te' ''; } >"$work/input"
     survives "random lines behind a call, run $n"
 done
 

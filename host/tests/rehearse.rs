@@ -170,6 +170,11 @@ impl Random {
         self.one_in(2).then(|| (3 + self.below(18) as u8, 120 + self.below(481) as u16))
     }
 
+    /// When the answerer answers, or nothing of it.
+    fn answers(&mut self) -> Option<u32> {
+        self.one_in(3).then(|| 200 + self.below(6000) as u32)
+    }
+
     /// A function, most often one that the caller has.
     fn function(&mut self, caller: &Record) -> u8 {
         match self.below(6) as u8 + 1 {
@@ -180,13 +185,14 @@ impl Random {
 }
 
 /// What is planned: two ends, the function of the call, the CM of a stranger in place of the caller's record and of the function, Te
-/// and the cadence where they are given, the octets of the caller's blocks, the damaged bits of either end.
+/// the cadence and the time of the answer where they are given, the octets of the caller's blocks, the damaged bits of either end.
 struct Call {
     ends: [Record; 2],
     function: u8,
     given: Option<Vec<u8>>,
     te: Option<usize>,
     cadence: Option<(u8, u16)>,
+    answers: Option<u32>,
     blocks: Vec<u8>,
     damaged: [BTreeSet<usize>; 2],
 }
@@ -257,7 +263,13 @@ impl Call {
         shown("CI", &[self.cadence().function << 5 | 1])
     }
 
-    /// How the model's caller calls, which gets a tick in each bit time, hears ANSam from 200 ms on, and is asked for one bit.
+    /// When the answerer answers: with its first tick at that time or behind it.
+    fn answered_at(&self) -> u32 {
+        (self.answers.unwrap_or(200) * 3).div_ceil(10) * 10 / 3
+    }
+
+    /// How the model's caller calls, which gets a tick in each bit time, hears ANSam behind the one in which it begins, and is asked for one
+    /// bit.
     fn calling(&self) -> Calling {
         let model = Model::default();
         let mut session = model.start_caller(0, None, self.cadence()).expect("a caller");
@@ -265,7 +277,7 @@ impl Call {
         for time in 0.. {
             let now = time as u32 * 10 / 3;
             model.step(&mut session, model::Event::Tick, now).expect("a tick");
-            if now > 200 {
+            if now > self.answered_at() {
                 model.step(&mut session, model::Event::Ansam, now).expect("ANSam");
             }
             match session.state {
@@ -291,7 +303,8 @@ impl Call {
             None => format!("caller    {caller}\nanswerer  {answerer}\ncall      {function}\n"),
         };
         let Cadence { on, off, .. } = self.cadence();
-        plan += &format!("Te        {te}\ncadence   {on} {off}\n");
+        let answers = self.answers.unwrap_or(200);
+        plan += &format!("Te        {te}\ncadence   {on} {off}\nanswers   {answers}\n");
         for line in self.blocks.chunks(16) {
             plan += &format!("blocks    {}\n", text::show_octets(line));
         }
@@ -320,6 +333,9 @@ impl Call {
         }
         if let Some(te) = self.te {
             lines.push(vec!["Te".to_string(), te.to_string()]);
+        }
+        if let Some(answers) = self.answers {
+            lines.push(vec!["answers".to_string(), answers.to_string()]);
         }
         if let Some((on, off)) = self.cadence {
             lines.push(vec!["cadence".to_string(), on.to_string(), off.to_string()]);
@@ -420,9 +436,10 @@ impl Call {
     }
 
     /// Whether CM is agreed while the answerer waits, on a line without damage: it is with the last of the ten 1s behind its second copy. The
-    /// answerer leaves at 5,200 ms, with bit 1560.
+    /// answerer leaves 5,000 ms behind its answer.
     fn in_time(&self, cm: &[u8]) -> bool {
-        self.cm_begins() + 2 * (20 + 10 * cm.len()) + 10 <= 1560
+        let leaves = ((self.answered_at() as usize + 5000) * 3).div_ceil(10);
+        self.cm_begins() + 2 * (20 + 10 * cm.len()) + 10 <= leaves
     }
 
     /// CM of a call that nothing is wrong with: as it is given, or as the model makes it.
@@ -614,8 +631,9 @@ fn plan_and_ladder<'a>(call: &str, printed: &'a str) -> (&'a str, Ladder) {
         events.push(Event { now, answerer: caller.is_empty(), what, text: words(middle).collect(), field: Vec::new() });
     }
     assert!(events.iter().all(|event| event.field == event.field_heard()), "{call}{printed}");
-    let begin: Vec<_> = events.iter().take(2).map(|event| (event.answerer, event.what.as_str())).collect();
-    assert_eq!(begin, [(false, "still"), (true, "still")], "{call}{printed}");
+    let begin =
+        |answerer: bool| events.iter().find(|event| event.answerer == answerer).map(|event| event.what.as_str());
+    assert_eq!([false, true].map(begin), [Some("still"); 2], "{call}{printed}");
     (plan, Ladder { events, ending })
 }
 
@@ -716,7 +734,10 @@ fn ends_as_the_model_says(call: &Call, said: &str, wrong: Option<String>, counts
     let on: Vec<&Event> = ladder.events.iter().filter(|event| event.what == "calling").collect();
     assert_eq!(on.iter().map(|event| event.now).collect::<Vec<_>>(), calling.begins, "{said}{printed}");
     assert!(on.iter().all(|event| !event.answerer && event.text.join(" ") == call.ci()), "{said}{printed}");
-    assert_eq!(ladder.heard("CI"), vec![call.ci(); calling.begins.len()], "{said}{printed}");
+    // An answerer that is on the line from the first on hears CI in every on period, and a late one no other.
+    let heard = ladder.heard("CI");
+    assert!(heard.iter().all(|heard| *heard == call.ci()), "{said}{printed}");
+    assert!(call.answers.is_some() || heard.len() == calling.begins.len(), "{said}{printed}");
     assert_eq!(ladder.at("quiet"), calling.quiet, "{said}{printed}");
     let cm = call.cm();
     let (jm, choice) = match call.answered(&cm) {
@@ -791,6 +812,7 @@ fn a_rehearsed_call_ends_as_the_model_says() {
                 given: None,
                 te: None,
                 cadence: None,
+                answers: None,
                 blocks: blocks.clone(),
                 damaged: Default::default(),
             };
@@ -808,9 +830,8 @@ fn a_call_in_any_words_ends_as_the_model_says() {
         let ends = [random.record(), random.record()];
         let function = random.function(&ends[0]);
         let te = random.one_in(2).then(|| 500 + random.below(2900));
-        let cadence = random.cadence();
-        let call =
-            Call { ends, function, given: None, te, cadence, blocks: random.blocks(), damaged: Default::default() };
+        let (cadence, answers, blocks) = (random.cadence(), random.answers(), random.blocks());
+        let call = Call { ends, function, given: None, te, cadence, answers, blocks, damaged: Default::default() };
         let (said, wrong) = call.in_other_words(&mut random);
         ends_as_the_model_says(&call, &said, wrong, &mut counts);
     }
@@ -826,8 +847,8 @@ fn a_stranger_is_answered_as_the_model_says() {
         let given = Some(random.given());
         let te = random.one_in(2).then(|| 500 + random.below(2900));
         let blocks = if random.one_in(10) { random.blocks() } else { Vec::new() };
-        let cadence = random.cadence();
-        let call = Call { ends, function: 6, given, te, cadence, blocks, damaged: Default::default() };
+        let (cadence, answers) = (random.cadence(), random.answers());
+        let call = Call { ends, function: 6, given, te, cadence, answers, blocks, damaged: Default::default() };
         let (said, wrong) = call.in_other_words(&mut random);
         ends_as_the_model_says(&call, &said, wrong, &mut counts);
     }
@@ -850,6 +871,7 @@ fn the_answerer_waits_for_a_field_as_long_as_the_model_says() {
             given: None,
             te: None,
             cadence: None,
+            answers: None,
             blocks,
             damaged: Default::default(),
         };
@@ -898,6 +920,7 @@ fn a_menu_that_damage_makes_is_answered_as_the_model_says() {
             given: None,
             te: Some(5000),
             cadence: None,
+            answers: None,
             blocks: Vec::new(),
             damaged: Default::default(),
         };
@@ -948,9 +971,8 @@ fn a_call_over_a_damaged_line_ends_in_a_known_way() {
         let function = random.function(&ends[0]);
         let latest = if random.one_in(8) { 5000 } else { 2000 };
         let te = random.one_in(2).then(|| 500 + random.below(latest - 499));
-        let cadence = random.cadence();
-        let blocks = random.blocks();
-        let mut call = Call { ends, function, given: None, te, cadence, blocks, damaged: Default::default() };
+        let (cadence, answers, blocks) = (random.cadence(), random.answers(), random.blocks());
+        let mut call = Call { ends, function, given: None, te, cadence, answers, blocks, damaged: Default::default() };
         if call.wrong().is_some() || call.unmade().is_some() {
             continue;
         }
