@@ -1,7 +1,7 @@
 -- The bits of the cadence: the bit at a place of its period is that of the endless cadence, and so many bits of it are read place by place.
 -- Assumes nothing.
 use Prim.Native.Nat.{ℕ, zero, suc, _+_, _%_, _/_, _^_, _<_}
-use native.Mathlib.Nat.{mod-lt, mod-mod, suc-mod, not-suc-le-zero}
+use native.Mathlib.Nat.{mod-lt, suc-mod, not-suc-le-zero}
 use native.Mathlib.Omega.{arith}
 use mathlib.Core.Path.{_≡_, refl, sym, ap, ap₂, _∙_}
 use mathlib.Core.Bool.{Bool}
@@ -45,10 +45,6 @@ module _ (function on off : ℕ) where
   unfolding cadenceAt
   bit-here place f =
       ap (λ (b : ℕ). when (ltb (place % period on off) (onBits on)) b silence) (ci-bit function (place % period on off % 30) f (mod-lt (place % period on off) {m = 30} (lit< tt)))
-
-  pub at-period : (place : ℕ) → cadenceAt function on off (place % period on off) ≡ cadenceAt function on off place
-  unfolding cadenceAt
-  at-period place = rw (mod-mod place (period on off)) refl
 
   -- the bits, as they are found place by place
   pub found-bits : (place n : ℕ) → function < 7 → bitsHere (ciNumber function) (onBits on) (period on off) place n ≡ bitsFrom function on off place n

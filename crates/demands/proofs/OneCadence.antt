@@ -3,7 +3,7 @@
 -- Assumes nothing.
 use Prim.Native.Nat.{ℕ, _+_, _<_, _≤_}
 use native.Mathlib.Omega.{arith}
-use mathlib.Core.Path.{_≡_, refl, sym, ap, _∙_}
+use mathlib.Core.Path.{_≡_, refl, sym, ap, _∙_, ap₂}
 use mathlib.Core.Bool.{true}
 use mathlib.Core.List.{List, [], _∷_, _++_}
 use mathlib.Core.Logic.{_⊎_, inl, inr, ⊎-elim}
@@ -18,12 +18,14 @@ use Rattle.cadence.proofs.Left.{left-most}
 use Rattle.cadence.proofs.Placed.{begun-placed, left-placed}
 use Rattle.steps.specs.declared.Session.{Session}
 use Rattle.steps.specs.Table.{calling, tick}
-use Rattle.steps.specs.Session.{isTe, callerFrom}
+use Rattle.steps.specs.Session.{isTe, callerFrom, caller, answerer, inRange, answererFrom}
 use Rattle.steps.specs.Stepping.{StepOutcome, stepped}
-use Rattle.steps.specs.Runs.{Timed, Act, happens, next, run, givenOut}
-use Rattle.steps.proofs.Ranges.{caller-start-is-in-range}
+use Rattle.steps.specs.Runs.{Timed, Act, happens, asks, next, run, bitsOf, givenOut}
+use Rattle.steps.proofs.Ranges.{caller-start-is-in-range, caller-calls, answerer-start-is-in-range}
 use Rattle.steps.proofs.Drawings.{run-joined, given-joined, count-calling, bits-elsewhere, Along, Goes, run-goes, endsIn, by-tone, Ending, Gone, gone-elsewhere, gone-next, Behind, run-behind, later-tone, ending-in-turn, gone-in-turn, changes-at-once, hears, changes-at-last, waits-for-bits}
-use Rattle.demands.specs.OneCadence.{endsAt, inTurn, isTone, IsSending, inTime, changesTo, Entered, EndsBehind, OnAndOff, OneCadence}
+use Rattle.steps.proofs.Runs.{next-keeps-range, next-keeps-te}
+use borrow.Author.Tests.{eqb-true}
+use Rattle.demands.specs.OneCadence.{endsAt, inTurn, isTone, IsSending, inTime, changesTo, Entered, EndsBehind, OnAndOff, OneCadence, AnswererIsSilent}
 use Rattle.demands.proofs.Sounding.{periods}
 
 -- where a tone leads is no calling
@@ -142,3 +144,19 @@ one-cadence start te function on off timed named lasting = record {
 -- and what that cadence is
 pub on-and-off : (function on off : ℕ) → isFunction function ≡ true → isCadence on off ≡ true → OnAndOff function on off
 on-and-off function on off named lasting = record { periods = periods function on off (function-small function named) (cadence-lasts on off lasting); noBit = omega arith }
+
+-- calling is the caller's, and no session of an answerer becomes one
+silent-run : (s : Session) (acts : List Act) → inRange s ≡ true → s .end ≡ answerer → givenOut s acts ≡ []
+unfolding givenOut
+silent-run s [] inside own = refl
+silent-run s (a ∷ acts) inside own = ap₂ _++_ (no-bits a) (silent-run (next s a .session) acts (next-keeps-range s a inside) (next-keeps-te s a .1 ∙ own))
+  where
+    elsewhere : s .state ≡ calling → ⊥
+    elsewhere c = let z : answerer ≡ caller = sym own ∙ eqb-true (s .end) caller (caller-calls s inside c) in omega (arith, z)
+
+    no-bits : (b : Act) → bitsOf s b ≡ []
+    no-bits (happens t) = refl
+    no-bits (asks out) = bits-elsewhere s out inside elsewhere
+
+pub answerer-is-silent : AnswererIsSilent
+answerer-is-silent start acts = silent-run (answererFrom start) acts (answerer-start-is-in-range start) refl

@@ -13,6 +13,7 @@ use Rattle.sequences.specs.Line.{sequence, copies}
 use Rattle.cadence.specs.Cadence.{onBits, period, silence, bitsFrom}
 use Rattle.steps.specs.declared.Session.{Session}
 use Rattle.steps.specs.Table.{calling, quiet, over, ansam, ans, tick}
+use Rattle.steps.specs.Session.{answererFrom}
 use Rattle.steps.specs.Stepping.{elapsed}
 use Rattle.steps.specs.Runs.{Timed, Act, happens, asks, next, run, bitsOf, givenOut}
 
@@ -85,3 +86,7 @@ pub record OneCadence (function on off : ℕ) (s : Session) : Type 0 where
   pub elsewhere : (acts : List Act) (out : List ℕ) → (run s acts .state ≡ calling → ⊥) → bitsOf (run s acts) (asks out) ≡ []
   -- "At ANSam or ANS"
   pub ends : (before : List Act) (t : Timed) → IsSending (run s before) → isTone (t .event) → inTime (run s before) t → EndsBehind s on off (length (givenOut s before)) before t
+
+-- "Calling now gives out a cadence", which is the caller's: an answerer gives out nothing, whatever happens and is asked for
+abbrev pub AnswererIsSilent : Type 0
+AnswererIsSilent = (start : ℕ) (acts : List Act) → givenOut (answererFrom start) acts ≡ []
