@@ -1,9 +1,9 @@
 -- No two choices, answers, reports or places share a number: each is found again from its number, where an item is one from 1 to 12, PCM options
 -- are some, an answer is one that a step can give, a place is below 64, and a refusal has a number.
 -- Assumes nothing.
-use Prim.Native.Nat.{zero, suc, _+_, _-_}
+use Prim.Native.Nat.{ℕ, zero, suc, _+_, _-_}
 use native.Mathlib.Omega.{arith}
-use mathlib.Core.Path.{_≡_, refl, sym, ap, _∙_}
+use mathlib.Core.Path.{_≡_, refl, sym, ap, ap₂, _∙_}
 use mathlib.Core.Bool.{Bool, true, false}
 use borrow.Author.Tests.{lt-ltb, le-ltb, ne-eqb}
 use lib.Dec.{ltb, eqb}
@@ -18,11 +18,13 @@ use Rattle.steps.proofs.Ticks.{between-true}
 use Rattle.steps.proofs.Answers.{possibleAnswer}
 use Rattle.listening.specs.Hearing.{Told, silence, ci, menu, cj}
 use Rattle.listening.specs.Hearing as hearing
+use Rattle.listening.specs.Spans.{Spanned, spans}
+use Rattle.listening.specs.Spans as spanning
 use Rattle.menus.specs.Groups.{Looked, place, nowhere}
 use Rattle.menus.specs.Groups as looking
 use Rattle.codes.specs.Choosing.{choiceCode}
 use Rattle.codes.specs.Steps.{stepCode}
-use Rattle.codes.specs.Hearing.{toldCode}
+use Rattle.codes.specs.Hearing.{toldCode, toldSpan, spanCode}
 use Rattle.codes.specs.Reading.{lookedCode}
 
 -- a choice that is known by its number
@@ -74,27 +76,48 @@ step-code-injective a b p q e = sym (answer-back a p) ∙ ap answerFrom e ∙ an
 -- and a report
 abbrev pub knownReport : Told → Bool
 knownReport silence = true
-knownReport ci = true
-knownReport (menu agreed) = true
+knownReport (ci span) = true
+knownReport (menu agreed span) = true
 knownReport cj = true
 knownReport (hearing.refusal n) = ltb 0 n
 
-abbrev reportFrom : ℤ → Told
-reportFrom (pos n) = when (eqb n 0) silence (when (eqb n 1) ci (when (eqb n 2) (menu false) (when (eqb n 3) (menu true) cj)))
-reportFrom (negsuc n) = hearing.refusal (suc n)
+abbrev reportFrom : ℤ → ℕ → Told
+reportFrom (pos n) span = when (eqb n 0) silence (when (eqb n 1) (ci span) (when (eqb n 2) (menu false span) (when (eqb n 3) (menu true span) cj)))
+reportFrom (negsuc n) span = hearing.refusal (suc n)
 
-report-back : (t : Told) → knownReport t ≡ true → reportFrom (toldCode t) ≡ t
+report-back : (t : Told) → knownReport t ≡ true → reportFrom (toldCode t) (toldSpan t) ≡ t
 unfolding when
 report-back silence known = refl
-report-back ci known = refl
-report-back (menu false) known = refl
-report-back (menu true) known = refl
+report-back (ci span) known = refl
+report-back (menu false span) known = refl
+report-back (menu true span) known = refl
 report-back cj known = refl
 report-back (hearing.refusal zero) known = clash (sym known)
 report-back (hearing.refusal (suc n)) known = refl
 
-pub told-code-injective : (t u : Told) → knownReport t ≡ true → knownReport u ≡ true → toldCode t ≡ toldCode u → t ≡ u
-told-code-injective t u p q e = sym (report-back t p) ∙ ap reportFrom e ∙ report-back u q
+pub told-code-injective : (t u : Told) → knownReport t ≡ true → knownReport u ≡ true → toldCode t ≡ toldCode u → toldSpan t ≡ toldSpan u → t ≡ u
+told-code-injective t u p q e alike = sym (report-back t p) ∙ ap₂ reportFrom e alike ∙ report-back u q
+
+-- and the span of the message reported last
+abbrev pub knownSpan : Spanned → Bool
+knownSpan spanning.none = true
+knownSpan (spans n) = ltb 0 n
+knownSpan (spanning.refusal n) = ltb 0 n
+
+abbrev spanFrom : ℤ → Spanned
+spanFrom (pos n) = when (eqb n 0) spanning.none (spans n)
+spanFrom (negsuc n) = spanning.refusal (suc n)
+
+span-back : (s : Spanned) → knownSpan s ≡ true → spanFrom (spanCode s) ≡ s
+unfolding when
+span-back spanning.none known = refl
+span-back (spans zero) known = clash (sym known)
+span-back (spans (suc n)) known = simp (ne-eqb (suc n) 0 (λ z. omega (arith, z)))
+span-back (spanning.refusal zero) known = clash (sym known)
+span-back (spanning.refusal (suc n)) known = refl
+
+pub span-code-injective : (s t : Spanned) → knownSpan s ≡ true → knownSpan t ≡ true → spanCode s ≡ spanCode t → s ≡ t
+span-code-injective s t p q e = sym (span-back s p) ∙ ap spanFrom e ∙ span-back t q
 
 -- and what looking answers
 abbrev pub knownPlace : Looked → Bool

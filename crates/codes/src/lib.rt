@@ -1,6 +1,7 @@
 // Codes: the answers of the library as the numbers that cross to C, and the numbers that C passes as what they ask for.
 use choices::Choice;
 use listening::Heard;
+use listening::LastSpan;
 use listening::Listener;
 use menus::Found;
 use menus::Offer;
@@ -15,12 +16,13 @@ ghost use Prim.Native.Nat.{_%_, _^_};
 ghost use lib.IntN.{pos, negℤ};
 ghost use Rattle.refusals.specs.Refusals.{number};
 ghost use Rattle.listening.specs.Hearing as hearing;
+ghost use Rattle.listening.specs.Spans as spans;
 ghost use Rattle.choices.specs.Choosing.{saysChoice};
 ghost use Rattle.steps.specs.Stepping as stepping;
 ghost use Rattle.refusals.specs.Lent.{saysWrote};
 ghost use Rattle.menus.specs.Groups as groups;
 ghost use Rattle.codes.specs.Writing.{kindOf, writeCode, cutSaid};
-ghost use Rattle.codes.specs.Hearing.{toldCode, actCoded};
+ghost use Rattle.codes.specs.Hearing.{toldCode, spanCode, actCoded};
 ghost use Rattle.codes.specs.Reading.{lookedCode, cutLooked, noOffer};
 ghost use Rattle.codes.specs.Choosing.{choiceCode, sourceCode};
 ghost use Rattle.codes.specs.Steps.{noSession, stepCode, carriedOf};
@@ -83,10 +85,21 @@ pub fn heard_code(h: Heard) -> i32
 {
     match h {
         Heard::Nothing => 0,
-        Heard::Ci => 1,
-        Heard::Menu(agreed) => { if agreed { 3 } else { 2 } }
+        Heard::Ci(_) => 1,
+        Heard::Menu(agreed, _) => { if agreed { 3 } else { 2 } }
         Heard::Cj => 4,
         Heard::Refused(r) => refusal_code(r),
+    }
+}
+
+// The span of the message reported last: no message has one of 0.
+pub fn span_code(span: LastSpan) -> i32
+    ensures { λ n. ⌜ n ≡ spanCode (spans.saysSpan span) ⌝ }
+{
+    match span {
+        LastSpan::Nothing => 0,
+        LastSpan::Bits(n) => n as i32,
+        LastSpan::Refused(r) => refusal_code(r),
     }
 }
 

@@ -31,7 +31,7 @@ use Rattle.sequences.specs.Line.{tenOnes, sequence, copies}
 use Rattle.sequences.specs.Writing.{written}
 use Rattle.listening.specs.Record.{fresh}
 use Rattle.stretches.specs.Stretch.{octetsAll, AcceptedMessage}
-use Rattle.stretches.specs.Hearing.{Report, message, reports, repeated}
+use Rattle.stretches.specs.Hearing.{Report, messageOf, reports, repeated}
 use Rattle.stretches.proofs.Copies.{copies-read, ci-then-copies}
 use Rattle.fields.specs.Packing.{packed}
 use Rattle.fields.specs.Blocks.{blocksFault}
@@ -126,7 +126,7 @@ sent-as octets bits small sends =
 heard-copies : (octets bits : List ℕ) → octetsAll octets ≡ true → (sends : Sends octets bits) → reports fresh bits ≡ repeated Menu octets (sends .copies)
 heard-copies octets bits small sends = let are = sent-as octets bits small sends in ap (reports fresh) (are .1) ∙ copies-read Menu octets (are .0) (sends .copies)
 
-agreed-again : (n : ℕ) (heard octets : List ℕ) → Agreed heard (replicate n (message Menu octets true)) → heard ≡ octets
+agreed-again : (n : ℕ) (heard octets : List ℕ) → Agreed heard (replicate n (messageOf Menu octets true)) → heard ≡ octets
 agreed-again (suc n) heard octets here = refl
 agreed-again (suc n) heard octets (later unlike rest) = clash unlike
 
@@ -134,7 +134,7 @@ agreed-as : (n : ℕ) (heard octets : List ℕ) → Agreed heard (repeated Menu 
 agreed-as (suc n) heard octets (later unlike rest) = agreed-again n heard octets rest
 
 -- a CI in front is not agreed
-agreed-behind : (n : ℕ) (heard ci : List ℕ) (menus : List Report) → Agreed heard (replicate n (message Ci ci false) ++ menus) → Agreed heard menus
+agreed-behind : (n : ℕ) (heard ci : List ℕ) (menus : List Report) → Agreed heard (replicate n (messageOf Ci ci false) ++ menus) → Agreed heard menus
 agreed-behind zero heard ci menus agreed = agreed
 agreed-behind (suc n) heard ci menus (later unlike rest) = agreed-behind n heard ci menus rest
 
@@ -272,7 +272,7 @@ two-agree : (octets : List ℕ) {bits : List ℕ} (sends : Sends octets bits) �
 two-agree octets sends = two-by (sends .copies) octets (sends .two)
 
 -- behind a CI it is agreed as without one
-agrees-behind : (n : ℕ) (octets ci : List ℕ) (menus : List Report) → Agreed octets menus → Agreed octets (replicate n (message Ci ci false) ++ menus)
+agrees-behind : (n : ℕ) (octets ci : List ℕ) (menus : List Report) → Agreed octets menus → Agreed octets (replicate n (messageOf Ci ci false) ++ menus)
 agrees-behind zero octets ci menus agreed = agreed
 agrees-behind (suc n) octets ci menus agreed = later refl (agrees-behind n octets ci menus agreed)
 

@@ -67,7 +67,7 @@ holds-what-was-heard bits tested =
 
 pub reports-stand-on-the-line : ReportsStandOnTheLine
 reports-stand-on-the-line = record {
-  stands = λ bits bit tested kind octets flag. reported-stands bits (early-bits bits bit tested) bit (last-bit bits bit (are-bits (bits ++ bit ∷ []) tested)) kind octets flag;
+  stands = λ bits bit tested kind octets flag span notes. reported-stands bits (early-bits bits bit tested) bit (last-bit bits bit (are-bits (bits ++ bit ∷ []) tested)) kind octets flag span notes .0;
 }
 
 -- the call function and an extension octet

@@ -1,13 +1,13 @@
 -- Every number that comes is one that the header lists, by the cases of each answer and tests computed over the few numbers there are; what
 -- can come is known by its number, so no two share one. And a choice goes to its number and back.
 -- Assumes nothing.
-use Prim.Native.Nat.{ℕ, zero, suc, _<_, _≤_, _+_}
+use Prim.Native.Nat.{ℕ, zero, suc, _<_, _≤_, _+_, _%_}
 use native.Mathlib.Omega.{arith}
 use mathlib.Core.Path.{_≡_, refl, sym, ap, _∙_}
 use mathlib.Core.Bool.{Bool, true, false}
 use mathlib.Core.List.{List, [], _∷_}
 use mathlib.Core.Logic.{⊎-elim}
-use borrow.Author.Tests.{lt-ltb, le-leb, ne-eqb, eqb-true, eqb-false}
+use borrow.Author.Tests.{lt-ltb, le-leb, eq-eqb, ne-eqb, eqb-true, eqb-false}
 use lib.Dec.{T, ltb, eqb}
 use lib.IntN.{pos}
 use lib.ListN.{length, drop}
@@ -33,7 +33,10 @@ use Rattle.choices.specs.Choosing.{Chosen, none, item, pcm, refusal, choiceOf}
 use Rattle.framing.specs.Framing.{report}
 use Rattle.listening.specs.declared.Listener.{Listener}
 use Rattle.listening.specs.Record as record-of
-use Rattle.listening.specs.Hearing.{Told, silence, ci, menu, cj, ManyOutcome, told, heardBit, heardBits}
+use Rattle.listening.specs.Hearing.{Told, silence, ci, menu, cj, ManyOutcome, spanOf, told, heardBit, heardBits}
+use Rattle.listening.specs.Spans.{Spanned, spanned, lastSpan}
+use Rattle.listening.specs.Spans as spanning
+use Rattle.listening.proofs.Ranges as record-ranges
 use Rattle.listening.specs.Hearing as hearing
 use Rattle.steps.specs.declared.Session.{Session}
 use Rattle.steps.specs.Table.{over, agreedJm, agreedCm}
@@ -45,16 +48,16 @@ use Rattle.steps.proofs.Ticks.{between-true}
 use Rattle.steps.proofs.Answers.{possibleAnswer, answer-is-possible}
 use Rattle.codes.specs.Choosing.{choiceCode}
 use Rattle.codes.specs.Steps.{nothingCarried, stepCode}
-use Rattle.codes.specs.Hearing.{toldCode}
+use Rattle.codes.specs.Hearing.{toldCode, spanCode}
 use Rattle.codes.specs.Reading.{lookedCode}
-use Rattle.codes.proofs.Apart.{knownChoice, choice-code-injective, step-code-injective, knownReport, told-code-injective, knownPlace, looked-code-injective}
+use Rattle.codes.proofs.Apart.{knownChoice, choice-code-injective, step-code-injective, knownReport, told-code-injective, knownSpan, span-code-injective, knownPlace, looked-code-injective}
 use Rattle.demands.specs.Joint.{jmOf}
 use Rattle.demands.specs.WholeCall.{carried}
 use Rattle.demands.specs.Shared.{NotShared, cmUnread, jmUnread, itemMissing, nonePairs, Shared}
 use Rattle.stretches.specs.Hearing.{onceHeard}
 use Rattle.demands.specs.Refusals.{oneOf, RefusedBitsLeaveWhatIsLaidDown}
 use Rattle.demands.proofs.Refusals.{behind-first, refusals-leave-what-is-laid-down}
-use Rattle.demands.specs.Numbers.{choiceNumber, stepNumber, heardNumber, placeNumber, NumbersAreToldApart, asChosen, ChoicesAreHandedOver}
+use Rattle.demands.specs.Numbers.{choiceNumber, stepNumber, heardNumber, spanNumber, placeNumber, NumbersAreToldApart, asChosen, ChoicesAreHandedOver}
 use Rattle.demands.proofs.Shared.{choice-is-shared}
 
 -- what is computed of every number below a limit, where a test holds
@@ -202,16 +205,16 @@ refusal-of-bit (suc n) listed = record { number = listed; known = lt-ltb 0 (suc 
 
 abbrev numberTold : Told → ℕ
 numberTold silence = 0
-numberTold ci = 0
-numberTold (menu isAgreed) = 0
+numberTold (ci span) = 0
+numberTold (menu isAgreed span) = 0
 numberTold cj = 0
 numberTold (hearing.refusal n) = n
 
 told-tells : (t : Told) → ((n : ℕ) → t ≡ hearing.refusal n → Hears n) → TellsReport t
 told-tells silence listed = record { number = refl; known = refl }
-told-tells ci listed = record { number = refl; known = refl }
-told-tells (menu true) listed = record { number = refl; known = refl }
-told-tells (menu false) listed = record { number = refl; known = refl }
+told-tells (ci span) listed = record { number = refl; known = refl }
+told-tells (menu true span) listed = record { number = refl; known = refl }
+told-tells (menu false span) listed = record { number = refl; known = refl }
 told-tells cj listed = record { number = refl; known = refl }
 told-tells (hearing.refusal n) listed = refusal-of-bit n (listed n refl)
 
@@ -231,6 +234,24 @@ many-listed rec bits n false e told = rw (sym (ap numberTold (sym (ap (λ (o : M
 many-tells : (rec : Listener) (bits : List ℕ) → TellsReport (heardBits rec bits .report)
 many-tells rec bits = told-tells (heardBits rec bits .report) (λ n. many-listed rec bits n (record-of.inRange rec) refl)
 
+-- a span that is asked for
+record TellsSpan (s : Spanned) : Type 0 where
+  number : spanNumber (spanCode s) ≡ true
+  known : knownSpan s ≡ true
+
+span-tells : (rec : Listener) → TellsSpan (lastSpan rec)
+unfolding lastSpan spanned either both
+span-tells rec =
+    either-way TellsSpan (record-of.inRange rec) (spanned (rec .last)) (spanning.refusal 10)
+    (λ inside.
+    let few = record-ranges.range-fits rec inside .last .len in
+    either-way TellsSpan (eqb (rec .last .kind) 0) spanning.none (spanning.spans (spanOf (rec .last .len))) (λ _. record { number = refl; known = refl })
+    (λ _. record {
+      number = simp (ne-eqb (spanOf (rec .last .len)) 0 (λ z. omega (arith, z)), in-range 20 660 (spanOf (rec .last .len)) (omega arith) (omega (arith, few)), eq-eqb (spanOf (rec .last .len) % 10) 0 (omega arith));
+      known = lt-ltb 0 (spanOf (rec .last .len)) (omega arith);
+    }))
+    (λ _. record { number = refl; known = refl })
+
 pub numbers-are-told-apart : NumbersAreToldApart
 numbers-are-told-apart = record {
   choices = λ cm jm. choice-tells cm jm .number;
@@ -238,8 +259,10 @@ numbers-are-told-apart = record {
   steps = λ s event value now. answer-number (stepped s event value now .answer) (answer-is-possible s event value now);
   stepsApart = λ s s′ event event′ value value′ now now′ e. step-code-injective _ _ (answer-is-possible s event value now) (answer-is-possible s′ event′ value′ now′) e;
   reports = λ rec bit. heard-tells rec bit .number;
-  reportsApart = λ rec rec′ bit bit′ e. told-code-injective _ _ (heard-tells rec bit .known) (heard-tells rec′ bit′ .known) e;
+  reportsApart = λ rec rec′ bit bit′ e alike. told-code-injective _ _ (heard-tells rec bit .known) (heard-tells rec′ bit′ .known) e alike;
   manyReports = λ rec bits. many-tells rec bits .number;
+  spans = λ rec. span-tells rec .number;
+  spansApart = λ rec rec′ e. span-code-injective _ _ (span-tells rec .known) (span-tells rec′ .known) e;
   places = λ octets t. looked-tells octets t .number;
   placesApart = λ octets octets′ t t′ e. looked-code-injective _ _ (looked-tells octets t .known) (looked-tells octets′ t′ .known) e;
   cmSize = λ own function blocks out size told.
@@ -262,7 +285,7 @@ numbers-are-told-apart = record {
       let told-all = counted _ menu out size told in
       let short = size-short menu (behind-first (recordFault own ∷ listFault Reading heard ∷ []) _ _ (told-all .fine)) in
       in-range 1 64 size (omega (arith, told-all .all, menu-length (modulationCount jm heard) jm)) (omega (arith, told-all .all, short));
-  manyReportsApart = λ rec rec′ bits bits′ e. told-code-injective _ _ (many-tells rec bits .known) (many-tells rec′ bits′ .known) e;
+  manyReportsApart = λ rec rec′ bits bits′ e alike. told-code-injective _ _ (many-tells rec bits .known) (many-tells rec′ bits′ .known) e alike;
 }
 
 -- an event that carries what it may not is refused with 9

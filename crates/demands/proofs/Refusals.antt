@@ -168,8 +168,8 @@ buffers-kept = record {
 -- what a bit tells, as one number more than its refusal
 abbrev numberTold : Told → ℕ
 numberTold silence = 0
-numberTold ci = 0
-numberTold (menu agreed) = 0
+numberTold (ci span) = 0
+numberTold (menu agreed span) = 0
 numberTold cj = 0
 numberTold (refusal n) = suc n
 
@@ -178,7 +178,7 @@ told-fine : (act : ℕ) (m last : Message) → act ≤ tellCj → numberTold (to
 unfolding told toldAlone reported
 told-fine act m last low =
     either-way (λ (t : Told). numberTold t ≡ 0) (eqb act report) _ _
-    (λ _. either-way (λ (t : Told). numberTold t ≡ 0) (eqb (m .kind) 1) ci (menu (agreed m last)) (λ _. refl) (λ _. refl))
+    (λ _. either-way (λ (t : Told). numberTold t ≡ 0) (eqb (m .kind) 1) (ci _) (menu (agreed m last) _) (λ _. refl) (λ _. refl))
     (λ no-report. either-way (λ (t : Told). numberTold t ≡ 0) (ltb act report) silence _ (λ _. refl)
     (λ loud. either-way (λ (t : Told). numberTold t ≡ 0) (eqb act tellCj) cj (refusal (refusalIn act)) (λ _. refl)
     (λ no-cj. absurd (let z : ⊥ = omega (arith, low, ltb-false act report loud, eqb-false act report no-report, eqb-false act tellCj no-cj) in z))))
@@ -253,8 +253,8 @@ record RefusedFrom (at : ℕ) (rec : Listener) (bits : List ℕ) (n : ℕ) (all 
 
 quiet-told : (t : Told) → silent t ≡ true → t ≡ silence
 quiet-told silence q = refl
-quiet-told ci q = clash (sym q)
-quiet-told (menu agreed) q = clash (sym q)
+quiet-told (ci span) q = clash (sym q)
+quiet-told (menu agreed span) q = clash (sym q)
 quiet-told cj q = clash (sym q)
 quiet-told (refusal n) q = clash (sym q)
 

@@ -13,7 +13,7 @@ use Rattle.sequences.specs.Line.{tenOnes}
 use Rattle.sequences.specs.Writing.{written}
 use Rattle.refusals.specs.Lent.{count, WriteOutcome}
 use Rattle.listening.specs.Record.{fresh}
-use Rattle.stretches.specs.Hearing.{Report, message, cj, refusal, reports, repeated}
+use Rattle.stretches.specs.Hearing.{Report, message, messageOf, cj, refusal, reports, repeated}
 use Rattle.records.specs.declared.Record.{Record}
 use Rattle.offers.specs.Making.{madeCm, madeJm}
 use Rattle.cadence.specs.Cadence.{silence}
@@ -41,12 +41,12 @@ pub record Sends (octets bits : List ℕ) : Type 0 where
 
 -- what the other end hears: the first agreed menu among its reports, whatever they are, has these octets
 abbrev pub isAgreed : Report → Bool
-isAgreed (message kind octets flag) = flag
+isAgreed (message kind octets flag span) = flag
 isAgreed cj = false
 isAgreed (refusal n) = false
 
 pub data Agreed (octets : List ℕ) : List Report → Type 0 where
-  here : {later : List Report} → Agreed octets (message Menu octets true ∷ later)
+  here : {span : ℕ} {later : List Report} → Agreed octets (message Menu octets true span ∷ later)
   later : {other : Report} {rest : List Report} → isAgreed other ≡ false → Agreed octets rest → Agreed octets (other ∷ rest)
 
 -- what goes over the line of what is given out: silence is no bit, and is not handed to a listener
@@ -84,7 +84,7 @@ pub record Exchange (caller answerer : Record) (function : ℕ) (blocks : List �
 pub record HearsCiThenCm (function : ℕ) (cm ci cmBits : List ℕ) (copies : ℕ) : Type 0 where
   pub sequences : ℕ
   pub three : 3 ≤ sequences
-  pub all : reports fresh (ci ++ cmBits) ≡ replicate sequences (message Ci (categoryOctet callFunctionTag function ∷ []) false) ++ repeated Menu cm copies
+  pub all : reports fresh (ci ++ cmBits) ≡ replicate sequences (messageOf Ci (categoryOctet callFunctionTag function ∷ []) false) ++ repeated Menu cm copies
 
 -- "Where both menus arrive as they were sent": they do, and each end hands over the choice from what it sent and what it heard
 pub record ExchangeEnds (caller answerer : Record) (function on off callerStart te : ℕ) (blocks : List ℕ) (calls : Calls function on off callerStart te)

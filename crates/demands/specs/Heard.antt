@@ -63,8 +63,8 @@ pub record HoldsWhatWasHeard (bits : List ℕ) : Type 0 where
 
 -- a message is reported only where it stands: ten 1s, its sync, its octets, and ten 1s
 pub record ReportsStandOnTheLine : Type 0 where
-  pub stands : (bits : List ℕ) (bit : ℕ) → AreBits bits bit → (kind : Kind) (octets : List ℕ) (flag : Bool)
-      → noted (tells bits bit) (heardBit (line bits) bit .rec .msg) [] ≡ message kind octets flag ∷ [] → Ends (sequence kind octets ++ tenOnes) (bits ++ bit ∷ [])
+  pub stands : (bits : List ℕ) (bit : ℕ) → AreBits bits bit → (kind : Kind) (octets : List ℕ) (flag : Bool) (span : ℕ)
+      → noted (tells bits bit) (heardBit (line bits) bit .rec .msg) [] ≡ message kind octets flag span ∷ [] → Ends (sequence kind octets ++ tenOnes) (bits ++ bit ∷ [])
 
 -- "Any other sync is passed over and hunting resumes."
 pub record OtherSyncsArePassedOver : Type 0 where

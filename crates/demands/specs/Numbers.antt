@@ -1,15 +1,16 @@
 -- The numbers that cross to C: those that `include/tailsprig.h` lists for a choice, a step and a bit are all that come, each tells what it
 -- stands for, and a choice that a host hands to the step as its number arrives there.
-use Prim.Native.Nat.{ℕ, suc, _+_}
+use Prim.Native.Nat.{ℕ, suc, _+_, _%_}
 use mathlib.Core.Path.{_≡_}
 use mathlib.Core.Bool.{Bool, true}
 use mathlib.Core.List.{List, [], _∷_}
 use lib.Dec.{eqb, leb}
 use lib.IntN.{ℤ, pos, negsuc}
-use Rattle.laws.specs.Logic.{when, either}
+use Rattle.laws.specs.Logic.{when, both, either}
 use Rattle.choices.specs.Choosing.{Chosen, none, item, pcm, refusal, choiceOf}
 use Rattle.listening.specs.declared.Listener.{Listener}
 use Rattle.listening.specs.Hearing.{heardBit, heardBits}
+use Rattle.listening.specs.Spans.{lastSpan}
 use Rattle.steps.specs.declared.Session.{Session}
 use Rattle.steps.specs.Table.{over, agreedJm, agreedCm}
 use Rattle.steps.specs.Session.{between, isChoice, inRange}
@@ -22,7 +23,7 @@ use Rattle.offers.specs.Making.{madeCm, madeJm}
 use Rattle.codes.specs.Reading.{lookedCode}
 use Rattle.codes.specs.Choosing.{choiceCode}
 use Rattle.codes.specs.Steps.{nothingCarried, stepCode}
-use Rattle.codes.specs.Hearing.{toldCode}
+use Rattle.codes.specs.Hearing.{toldCode, toldSpan, spanCode}
 use Rattle.demands.specs.Refusals.{oneOf}
 use Rattle.demands.specs.WholeCall.{carried}
 
@@ -42,6 +43,11 @@ abbrev pub heardNumber : ℤ → Bool
 heardNumber (pos n) = leb n 4
 heardNumber (negsuc n) = oneOf (1 ∷ 2 ∷ 3 ∷ 4 ∷ 10 ∷ 13 ∷ []) (suc n)
 
+-- `tailsprig_last_span`: 0 where no message was reported, a multiple of ten from 20 to 660 for a span; refusal 10
+abbrev pub spanNumber : ℤ → Bool
+spanNumber (pos n) = either (eqb n 0) (both (between 20 660 n) (eqb (n % 10) 0))
+spanNumber (negsuc n) = oneOf (10 ∷ []) (suc n)
+
 -- `tailsprig_find`: 0 to 63 for a place, 64 for nowhere; refusals 4, 5 and 3
 abbrev pub placeNumber : ℤ → Bool
 placeNumber (pos n) = leb n 64
@@ -55,9 +61,14 @@ pub record NumbersAreToldApart : Type 0 where
   pub stepsApart : (s s′ : Session) (event event′ value value′ now now′ : ℕ) → stepCode (stepped s event value now .answer) ≡ stepCode (stepped s′ event′ value′ now′ .answer)
       → stepped s event value now .answer ≡ stepped s′ event′ value′ now′ .answer
   pub reports : (rec : Listener) (bit : ℕ) → heardNumber (toldCode (heardBit rec bit .report)) ≡ true
-  pub reportsApart : (rec rec′ : Listener) (bit bit′ : ℕ) → toldCode (heardBit rec bit .report) ≡ toldCode (heardBit rec′ bit′ .report) → heardBit rec bit .report ≡ heardBit rec′ bit′ .report
+  -- but for the span of a message, which is a number of its own
+  pub reportsApart : (rec rec′ : Listener) (bit bit′ : ℕ) → toldCode (heardBit rec bit .report) ≡ toldCode (heardBit rec′ bit′ .report) → toldSpan (heardBit rec bit .report) ≡ toldSpan (heardBit rec′ bit′ .report)
+      → heardBit rec bit .report ≡ heardBit rec′ bit′ .report
   pub manyReports : (rec : Listener) (bits : List ℕ) → heardNumber (toldCode (heardBits rec bits .report)) ≡ true
-  pub manyReportsApart : (rec rec′ : Listener) (bits bits′ : List ℕ) → toldCode (heardBits rec bits .report) ≡ toldCode (heardBits rec′ bits′ .report) → heardBits rec bits .report ≡ heardBits rec′ bits′ .report
+  pub manyReportsApart : (rec rec′ : Listener) (bits bits′ : List ℕ) → toldCode (heardBits rec bits .report) ≡ toldCode (heardBits rec′ bits′ .report)
+      → toldSpan (heardBits rec bits .report) ≡ toldSpan (heardBits rec′ bits′ .report) → heardBits rec bits .report ≡ heardBits rec′ bits′ .report
+  pub spans : (rec : Listener) → spanNumber (spanCode (lastSpan rec)) ≡ true
+  pub spansApart : (rec rec′ : Listener) → spanCode (lastSpan rec) ≡ spanCode (lastSpan rec′) → lastSpan rec ≡ lastSpan rec′
   pub places : (octets : List ℕ) (t : ℕ) → placeNumber (lookedCode (looked octets t)) ≡ true
   pub placesApart : (octets octets′ : List ℕ) (t t′ : ℕ) → lookedCode (looked octets t) ≡ lookedCode (looked octets′ t′) → looked octets t ≡ looked octets′ t′
   -- `tailsprig_cm`: 4 to 64 octets, and 4 to 7 without blocks; `tailsprig_jm`: 1 to 64; `tailsprig_fields`: 0 to 38

@@ -10,7 +10,7 @@ use Rattle.refusals.specs.Lent.{count, WriteOutcome}
 use Rattle.sequences.specs.Line.{sequence, copies, cj}
 use Rattle.sequences.specs.Writing.{written, writtenCj}
 use Rattle.listening.specs.Record.{fresh}
-use Rattle.stretches.specs.Hearing.{onceHeard, Report, message, reports}
+use Rattle.stretches.specs.Hearing.{onceHeard, Report, messageOf, reports}
 use Rattle.menus.specs.declared.Offer.{Offer}
 use Rattle.menus.specs.Offer.{offers, menuRead}
 use Rattle.records.specs.declared.Record.{Record}
@@ -20,10 +20,10 @@ use Rattle.demands.specs.Joint.{cmOf, jmOf}
 
 -- what a fresh reader reports on the bits begins with this message, or with these two, and neither is agreed
 abbrev pub First : List ℕ → Kind → List ℕ → List Report → Type 0
-First bits kind octets rest = reports fresh bits ≡ message kind octets false ∷ rest
+First bits kind octets rest = reports fresh bits ≡ messageOf kind octets false ∷ rest
 
 abbrev pub FirstTwo : List ℕ → Kind → List ℕ → Kind → List ℕ → List Report → Type 0
-FirstTwo bits kind octets kind′ octets′ rest = reports fresh bits ≡ message kind octets false ∷ message kind′ octets′ false ∷ rest
+FirstTwo bits kind octets kind′ octets′ rest = reports fresh bits ≡ messageOf kind octets false ∷ messageOf kind′ octets′ false ∷ rest
 
 -- a choice by its case alone: none is no item, and an item is no PCM
 abbrev pub caseOf : Chosen → ℕ

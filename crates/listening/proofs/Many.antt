@@ -35,7 +35,7 @@ Loud t = silent t ≡ false
 
 reported-loud : (m last : Message) → Loud (reported m last)
 unfolding reported
-reported-loud m last = either-way Loud (eqb (m .kind) 1) ci (menu (agreed m last)) (λ _. refl) (λ _. refl)
+reported-loud m last = either-way Loud (eqb (m .kind) 1) (ci _) (menu (agreed m last) _) (λ _. refl) (λ _. refl)
 
 told-loud : (act : ℕ) (m last : Message) → report ≤ act → Loud (told act m last)
 unfolding told toldAlone

@@ -5,28 +5,46 @@ use mathlib.Core.Path.{_≡_, refl, sym, ap, _∙_}
 use Rattle.refusals.proofs.Numbers.{named, named-number}
 use Rattle.listening.specs.declared.Heard.{Heard}
 use Rattle.listening.specs.declared.Heard.the-variants.{Nothing, Ci, Menu, Cj, Refused}
+use Rattle.listening.specs.declared.LastSpan.{LastSpan}
+use Rattle.listening.specs.declared.LastSpan.the-variants as span-as
 use Rattle.listening.specs.declared.Listener.{Listener}
 use Rattle.listening.specs.declared.BitHeard.{BitHeard}
 use Rattle.listening.specs.declared.BitsHeard.{BitsHeard}
 use Rattle.listening.specs.Hearing.{Told, silence, ci, menu, cj, refusal, saysHeard, HearOutcome, ManyOutcome, Hears, HearsMany}
+use Rattle.listening.specs.Spans.{Spanned, none, spans, saysSpan}
+use Rattle.listening.specs.Spans as spanning
 
 -- the answer that says this
 abbrev saying : Told → Heard
 saying silence = Nothing
-saying ci = Ci
-saying (menu agreed) = Menu agreed
+saying (ci span) = Ci span
+saying (menu agreed span) = Menu agreed span
 saying cj = Cj
 saying (refusal n) = Refused (named n)
 
 said : (h : Heard) → saying (saysHeard h) ≡ h
 said Nothing = refl
-said Ci = refl
-said (Menu agreed) = refl
+said (Ci span) = refl
+said (Menu agreed span) = refl
 said Cj = refl
 said (Refused r) = ap Refused (named-number r)
 
 pub says-heard-injective : (h k : Heard) → saysHeard h ≡ saysHeard k → h ≡ k
 says-heard-injective h k alike = sym (said h) ∙ ap saying alike ∙ said k
+
+-- and so with a span that is asked for
+abbrev spanSaying : Spanned → LastSpan
+spanSaying none = span-as.Nothing
+spanSaying (spans n) = span-as.Bits n
+spanSaying (spanning.refusal n) = span-as.Refused (named n)
+
+span-said : (s : LastSpan) → spanSaying (saysSpan s) ≡ s
+span-said span-as.Nothing = refl
+span-said (span-as.Bits n) = refl
+span-said (span-as.Refused r) = ap span-as.Refused (named-number r)
+
+pub says-span-injective : (s t : LastSpan) → saysSpan s ≡ saysSpan t → s ≡ t
+says-span-injective s t alike = sym (span-said s) ∙ ap spanSaying alike ∙ span-said t
 
 pub hears-unique : (laid : HearOutcome) (a b : BitHeard) → Hears laid a → Hears laid b → a ≡ b
 hears-unique laid a b one other =

@@ -1,5 +1,5 @@
 -- Document 01, 'Listening': what one bit does to the record and what it reports; and many bits.
-use Prim.Native.Nat.{ℕ, _+_, _%_}
+use Prim.Native.Nat.{ℕ, _+_, _*_, _%_}
 use mathlib.Core.Path.{_≡_}
 use mathlib.Core.Bool.{Bool, true, false}
 use mathlib.Core.List.{List, [], _∷_}
@@ -21,19 +21,19 @@ use Rattle.listening.specs.declared.BitHeard.{BitHeard}
 use Rattle.listening.specs.declared.BitsHeard.{BitsHeard}
 use Rattle.listening.specs.Record.{partsInRange, inRange}
 
--- what is reported: nothing, CI, a menu that is agreed or not, CJ, or a refusal's number
+-- what is reported: nothing, CI, a menu that is agreed or not, CJ, or a refusal's number; a message "also carries" its span
 pub data Told : Type 0 where
   silence : Told
-  ci : Told
-  menu : Bool → Told
+  ci : ℕ → Told
+  menu : Bool → ℕ → Told
   cj : Told
   refusal : ℕ → Told
 
 -- what an answer says on paper
 abbrev pub saysHeard : Heard → Told
 saysHeard Nothing = silence
-saysHeard Ci = ci
-saysHeard (Menu agreed) = menu agreed
+saysHeard (Ci span) = ci span
+saysHeard (Menu agreed span) = menu agreed span
 saysHeard Cj = cj
 saysHeard (Refused r) = refusal (number r)
 
@@ -61,9 +61,14 @@ changed m act past =
 unfoldable pub agreed : Message → Message → Bool
 agreed m last = both (readable (octetsOf m)) (both (eqb (m .kind) (last .kind)) (sameList (octetsOf m) (octetsOf last)))
 
+-- document 02, Req 05: "the number of bits from its sync's first bit to the bit reporting it, both counted": ten of the sync, ten of each
+-- octet, and ten 1s. That so many were heard is `spans-tell-where-messages-began`
+abbrev pub spanOf : ℕ → ℕ
+spanOf octets = 20 + 10 * octets
+
 -- the message is reported
 unfoldable pub reported : Message → Message → Told
-reported m last = when (eqb (m .kind) 1) ci (menu (agreed m last))
+reported m last = when (eqb (m .kind) 1) (ci (spanOf (m .len))) (menu (agreed m last) (spanOf (m .len)))
 
 -- what an act tells that reports no message: nothing where it only touches one, CJ, or a refusal
 unfoldable pub toldAlone : ℕ → Told
@@ -125,8 +130,8 @@ taking o n = record { report = o .report; rec = o .rec; taken = n }
 
 abbrev pub silent : Told → Bool
 silent silence = true
-silent ci = false
-silent (menu agreed) = false
+silent (ci span) = false
+silent (menu agreed span) = false
 silent cj = false
 silent (refusal n) = false
 

@@ -15,7 +15,8 @@ use refusals::Refusal;
 ghost use mathlib.Core.Path.{_≡_};
 ghost use lib.ListN.{take};
 ghost use Rattle.listening.specs.Record.{messageInRange, partsInRange, inRange, empty, fresh};
-ghost use Rattle.listening.specs.Hearing.{saysHeard, started, stored, changed, agreed, reported, toldAlone, told, messagesAfter, listenerOf, heardBit, earTurned, listened, heardBits, Hears, HearsMany};
+ghost use Rattle.listening.specs.Hearing.{saysHeard, started, stored, changed, agreed, spanOf, reported, toldAlone, told, messagesAfter, listenerOf, heardBit, earTurned, listened, heardBits, Hears, HearsMany};
+ghost use Rattle.listening.specs.Spans.{saysSpan, spanned, lastSpan};
 
 // A message: 1 for CI, 2 for a menu, 0 for none; how many octets it has; and these.
 #[repr(C)]
@@ -33,12 +34,20 @@ pub struct Listener {
     pub last: Message,
 }
 
-// What a bit reports. A menu is agreed or not.
+// What a bit reports. A message carries its span, the number of bits from the first of its sync to the one that reports it, both counted;
+// a menu is agreed or not.
 pub enum Heard {
     Nothing,
-    Ci,
-    Menu(bool),
+    Ci(u16),
+    Menu(bool, u16),
     Cj,
+    Refused(Refusal),
+}
+
+// The span of the message reported last.
+pub enum LastSpan {
+    Nothing,
+    Bits(u16),
     Refused(Refusal),
 }
 
@@ -62,6 +71,8 @@ pub struct BitsHeard {
 }
 
 // The kinds of a message.
+const NO_MESSAGE: u8 = 0;
+
 const CI: u8 = 1;
 
 const MENU: u8 = 2;
@@ -129,14 +140,22 @@ fn agree(m: Message, last: Message) -> bool
         && (kind == last_kind && octets::same(menu, first(&before, last.len as usize)))
 }
 
+// The span of a message of so many octets: ten bits for its sync, ten for each octet, and the ten 1s.
+fn span_of(len: u8) -> u16
+    ensures { λ r. ⌜ r ≡ spanOf len ⌝ }
+{
+    20 + 10 * (len as u16)
+}
+
 fn report_of(m: Message, last: Message) -> Heard
     ensures { λ r. ⌜ saysHeard r ≡ reported m last ⌝ }
 {
     let kind = m.kind;
+    let span = span_of(m.len);
     if kind == CI {
-        return Heard::Ci;
+        return Heard::Ci(span);
     }
-    Heard::Menu(agree(m, last))
+    Heard::Menu(agree(m, last), span)
 }
 
 // What an act tells that reports no message.
@@ -242,11 +261,31 @@ pub fn hear(rec: Listener, bit: u8) -> BitHeard
     }
 }
 
+fn span_in(m: Message) -> LastSpan
+    ensures { λ r. ⌜ saysSpan r ≡ spanned m ⌝ }
+{
+    let kind = m.kind;
+    if kind == NO_MESSAGE {
+        return LastSpan::Nothing;
+    }
+    LastSpan::Bits(span_of(m.len))
+}
+
+// The span of the message reported last, for a host to which its report came as a number.
+pub fn last_span(rec: Listener) -> LastSpan
+    ensures { λ r. ⌜ saysSpan r ≡ lastSpan rec ⌝ }
+{
+    if fits(rec) {
+        return span_in(rec.last);
+    }
+    LastSpan::Refused(Refusal::BadRecord)
+}
+
 fn no_message() -> Message
     ensures { λ r. ⌜ r ≡ empty ⌝ }
 {
     Message {
-        kind: 0,
+        kind: NO_MESSAGE,
         len: 0,
         octets: [0u8; 64],
     }

@@ -11,7 +11,8 @@ ghost use Prim.Native.Nat.{_≤_};
 ghost use lib.ListN.{length};
 ghost use Rattle.listening.proofs.Ranges.{Fits};
 
-// Room that is kept for the next line, which has at most 218 bytes: 20 digits, a word of four, 64 octets, and what parts and ends them.
+// Room that is kept for the next line, which has at most 222 bytes: 20 digits, a word of four, 64 octets, three digits, and what parts
+// and ends them.
 const LINE_ROOM: usize = 256;
 
 // The line's record, how many bits were heard, and whether more may come.
@@ -39,17 +40,25 @@ fn put_octets(out: &mut [u8], at: usize, octets: &[u8]) -> usize
     n
 }
 
-// The place, what was heard, and its octets.
-fn put_fields(out: &mut [u8], at: usize, place: u64, what: &[u8], octets: &[u8]) -> usize
+// A message: the place, the word for it with the tabs around it, its octets and its span.
+fn put_fields(out: &mut [u8], at: usize, place: u64, what: &[u8], octets: &[u8], span: u16) -> usize
     requires { ⌜ at ≤ length (now out) ⌝ }
     ensures { λ r. ⌜ r ≤ length (now (out .exit)) ⌝ }
 {
     let n = put_decimal(out, at, place);
-    let m = put_text(out, n, b"\t");
-    let k = put_text(out, m, what);
+    let m = put_text(out, n, what);
+    let k = put_octets(out, m, octets);
     let j = put_text(out, k, b"\t");
-    let e = put_octets(out, j, octets);
+    let e = put_decimal(out, j, span as u64);
     put_text(out, e, b"\n")
+}
+
+fn put_cj(out: &mut [u8], at: usize, place: u64) -> usize
+    requires { ⌜ at ≤ length (now out) ⌝ }
+    ensures { λ r. ⌜ r ≤ length (now (out .exit)) ⌝ }
+{
+    let n = put_decimal(out, at, place);
+    put_text(out, n, b"\tCJ\t-\t-\n")
 }
 
 fn put_refusal(out: &mut [u8], at: usize, place: u64, number: u8) -> usize
@@ -59,7 +68,7 @@ fn put_refusal(out: &mut [u8], at: usize, place: u64, number: u8) -> usize
     let n = put_decimal(out, at, place);
     let m = put_text(out, n, b"\tR");
     let k = put_decimal(out, m, number as u64);
-    put_text(out, k, b"\t-\n")
+    put_text(out, k, b"\t-\t-\n")
 }
 
 // The line of a report.
@@ -69,9 +78,9 @@ fn put_line(out: &mut [u8], at: usize, place: u64, report: Heard, octets: &[u8])
 {
     match report {
         Heard::Nothing => at,
-        Heard::Ci => put_fields(out, at, place, b"CI", octets),
-        Heard::Menu(_) => put_fields(out, at, place, b"MENU", octets),
-        Heard::Cj => put_fields(out, at, place, b"CJ", b""),
+        Heard::Ci(span) => put_fields(out, at, place, b"\tCI\t", octets, span),
+        Heard::Menu(_, span) => put_fields(out, at, place, b"\tMENU\t", octets, span),
+        Heard::Cj => put_cj(out, at, place),
         Heard::Refused(r) => put_refusal(out, at, place, refusals::refusal_number(r)),
     }
 }
@@ -80,8 +89,8 @@ fn put_line(out: &mut [u8], at: usize, place: u64, report: Heard, octets: &[u8])
 fn bits_of(report: Heard, taken: usize) -> u64 {
     match report {
         Heard::Nothing => taken as u64,
-        Heard::Ci => taken as u64,
-        Heard::Menu(_) => taken as u64,
+        Heard::Ci(_) => taken as u64,
+        Heard::Menu(_, _) => taken as u64,
         Heard::Cj => taken as u64,
         Heard::Refused(r) => {
             if refusals::refusal_number(r) == 1 {
@@ -207,7 +216,7 @@ fn list_all(text: &mut [u8], lines: &mut [u8]) {
 }
 
 fn main() {
-    io::write_all(STDOUT_FILENO, b"bit\twhat\toctets\n");
+    io::write_all(STDOUT_FILENO, b"bit\twhat\toctets\tspan\n");
     let mut text = io::large_buffer();
     let mut lines = io::large_buffer();
     list_all(&mut text, &mut lines);

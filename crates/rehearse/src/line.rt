@@ -344,8 +344,8 @@ fn line_agreed(line: Line, heard: &[u8], now: u32) -> Line {
 fn told_of(report: Heard) -> u8 {
     match report {
         Heard::Nothing => NOTHING,
-        Heard::Ci => CI,
-        Heard::Menu(agreed) => { if agreed { AGREED } else { MENU } }
+        Heard::Ci(_) => CI,
+        Heard::Menu(agreed, _) => { if agreed { AGREED } else { MENU } }
         Heard::Cj => CJ,
         Heard::Refused(r) => refused(r),
     }

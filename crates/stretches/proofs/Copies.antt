@@ -19,7 +19,7 @@ use Rattle.sequences.specs.Writing.{written}
 use Rattle.listening.specs.declared.Listener.{Listener}
 use Rattle.listening.specs.Record.{empty, fresh}
 use Rattle.stretches.specs.Stretch.{octetsAll, AcceptedMessage}
-use Rattle.stretches.specs.Hearing.{Report, message, reports, nothing, earlier, flagged, Sent, none-sent, sent, lineOf, messagesOf, repeated}
+use Rattle.stretches.specs.Hearing.{Report, messageOf, reports, nothing, earlier, flagged, Sent, none-sent, sent, lineOf, messagesOf, repeated}
 use Rattle.stretches.proofs.Each.{Each, none, more, each-append, Bits}
 use Rattle.octets.proofs.Lists.{before-none}
 use Rattle.stretches.proofs.Sound.{Sound, accepted-sound, accepted-length}
@@ -59,7 +59,7 @@ module _ (kind : Kind) (octets : List ℕ) (accepted : AcceptedMessage kind octe
   pub first-copy : (rec : Listener) → Idle rec → Goes rec line [] (Held kind octets)
   first-copy = idle-sequence kind octets sound room
 
-  pub later-copies : (n : ℕ) (rec : Listener) → Held kind octets rec → Goes rec (copies n line) (replicate n (message kind octets false)) (Held kind octets)
+  pub later-copies : (n : ℕ) (rec : Listener) → Held kind octets rec → Goes rec (copies n line) (replicate n (messageOf kind octets false)) (Held kind octets)
   unfolding copies plain after
   later-copies zero rec held = record { tells = refl; leaves = held }
   later-copies (suc n) rec held = goes-on (held-sequence kind octets sound room kind octets rec held) (later-copies n)
@@ -69,7 +69,7 @@ sent-bits : (messages : Sent) → Bits (lineOf messages)
 sent-bits none-sent = none
 sent-bits (sent kind octets accepted later) = each-append (line-bits kind octets accepted) (sent-bits later)
 
-later-sent : (messages : Sent) (kind : Kind) (octets : List ℕ) (rec : Listener) → Held kind octets rec → Goes rec (lineOf messages ++ tenOnes) (message kind octets false ∷ messagesOf messages) Primed
+later-sent : (messages : Sent) (kind : Kind) (octets : List ℕ) (rec : Listener) → Held kind octets rec → Goes rec (lineOf messages ++ tenOnes) (messageOf kind octets false ∷ messagesOf messages) Primed
 later-sent none-sent kind octets rec held = ones-held kind octets rec held
 later-sent (sent kind′ octets′ accepted later) kind octets rec held =
     rw append-assoc (goes-on (held-sequence kind′ octets′ (accepted-sound kind′ octets′ accepted) (accepted-length kind′ octets′ accepted) kind octets rec held) (later-sent later kind′ octets′))
@@ -92,17 +92,17 @@ module _ (kind : Kind) (octets : List ℕ) (accepted : AcceptedMessage kind octe
   again-line zero = refl
   again-line (suc n) = ap (λ (l : List ℕ). sequence kind octets ++ l) (again-line n) ∙ sym (append-assoc (sequence kind octets) (copies n (sequence kind octets)) (lineOf others))
 
-  again-told : (n : ℕ) → messagesOf (again n) ≡ replicate n (message kind octets false) ++ messagesOf others
+  again-told : (n : ℕ) → messagesOf (again n) ≡ replicate n (messageOf kind octets false) ++ messagesOf others
   unfolding again
   again-told zero = refl
-  again-told (suc n) = ap (λ (l : List Report). message kind octets false ∷ l) (again-told n)
+  again-told (suc n) = ap (λ (l : List Report). messageOf kind octets false ∷ l) (again-told n)
 
 module _ (kind : Kind) (octets : List ℕ) (accepted : AcceptedMessage kind octets) where
   alone-line : (n : ℕ) → lineOf (again kind octets accepted none-sent n) ≡ copies n (sequence kind octets)
   alone-line n = again-line kind octets accepted none-sent n ∙ append-nil (copies n (sequence kind octets))
 
-  alone-told : (n : ℕ) → messagesOf (again kind octets accepted none-sent n) ≡ replicate n (message kind octets false)
-  alone-told n = again-told kind octets accepted none-sent n ∙ append-nil (replicate n (message kind octets false))
+  alone-told : (n : ℕ) → messagesOf (again kind octets accepted none-sent n) ≡ replicate n (messageOf kind octets false)
+  alone-told n = again-told kind octets accepted none-sent n ∙ append-nil (replicate n (messageOf kind octets false))
 
   pub copies-read : (n : ℕ) → reports fresh (copies n (sequence kind octets) ++ tenOnes) ≡ repeated kind octets n
   copies-read n = rw (← (alone-line n)) (sent-read (again kind octets accepted none-sent n) ∙ ap (flagged nothing) (alone-told n) ∙ flagged-repeated kind octets accepted n)
@@ -113,25 +113,25 @@ module _ (ci octets : List ℕ) (named : AcceptedMessage Ci ci) (accepted : Acce
   both-sent n m = again Ci ci named (again Menu octets accepted none-sent m) n
 
   -- a CI agrees with no menu behind it, as nothing does
-  behind-ci : (m : ℕ) → flagged (earlier Ci ci) (replicate m (message Menu octets false)) ≡ flagged nothing (replicate m (message Menu octets false))
+  behind-ci : (m : ℕ) → flagged (earlier Ci ci) (replicate m (messageOf Menu octets false)) ≡ flagged nothing (replicate m (messageOf Menu octets false))
   unfolding flagged
   behind-ci zero = refl
   behind-ci (suc m) = refl
 
-  ci-flagged : (n m : ℕ) → flagged (earlier Ci ci) (replicate n (message Ci ci false) ++ replicate m (message Menu octets false)) ≡ replicate n (message Ci ci false) ++ repeated Menu octets m
+  ci-flagged : (n m : ℕ) → flagged (earlier Ci ci) (replicate n (messageOf Ci ci false) ++ replicate m (messageOf Menu octets false)) ≡ replicate n (messageOf Ci ci false) ++ repeated Menu octets m
   unfolding flagged
   ci-flagged zero m = behind-ci m ∙ flagged-repeated Menu octets accepted m
-  ci-flagged (suc n) m = ap (λ (l : List Report). message Ci ci false ∷ l) (ci-flagged n m)
+  ci-flagged (suc n) m = ap (λ (l : List Report). messageOf Ci ci false ∷ l) (ci-flagged n m)
 
-  both-flagged : (n m : ℕ) → flagged nothing (replicate n (message Ci ci false) ++ replicate m (message Menu octets false)) ≡ replicate n (message Ci ci false) ++ repeated Menu octets m
+  both-flagged : (n m : ℕ) → flagged nothing (replicate n (messageOf Ci ci false) ++ replicate m (messageOf Menu octets false)) ≡ replicate n (messageOf Ci ci false) ++ repeated Menu octets m
   unfolding flagged
   both-flagged zero m = flagged-repeated Menu octets accepted m
-  both-flagged (suc n) m = ap (λ (l : List Report). message Ci ci false ∷ l) (ci-flagged n m)
+  both-flagged (suc n) m = ap (λ (l : List Report). messageOf Ci ci false ∷ l) (ci-flagged n m)
 
-  pub ci-then-copies : (n m : ℕ) → reports fresh (copies n (sequence Ci ci) ++ (copies m (sequence Menu octets) ++ tenOnes)) ≡ replicate n (message Ci ci false) ++ repeated Menu octets m
+  pub ci-then-copies : (n m : ℕ) → reports fresh (copies n (sequence Ci ci) ++ (copies m (sequence Menu octets) ++ tenOnes)) ≡ replicate n (messageOf Ci ci false) ++ repeated Menu octets m
   ci-then-copies n m =
       let line = again-line Ci ci named (again Menu octets accepted none-sent m) n ∙ ap (λ (l : List ℕ). copies n (sequence Ci ci) ++ l) (alone-line Menu octets accepted m) in
-      let told = again-told Ci ci named (again Menu octets accepted none-sent m) n ∙ ap (λ (l : List Report). replicate n (message Ci ci false) ++ l) (alone-told Menu octets accepted m) in
+      let told = again-told Ci ci named (again Menu octets accepted none-sent m) n ∙ ap (λ (l : List Report). replicate n (messageOf Ci ci false) ++ l) (alone-told Menu octets accepted m) in
       ap (reports fresh) (sym (append-assoc (copies n (sequence Ci ci)) (copies m (sequence Menu octets)) tenOnes) ∙ ap (λ (l : List ℕ). l ++ tenOnes) (sym line))
       ∙ sent-read (both-sent n m)
       ∙ ap (flagged nothing) told

@@ -24,7 +24,7 @@ use Rattle.listening.specs.Hearing.{HearOutcome, octetsOf, changed, agreed, rep
 use Rattle.listening.specs.Record.{inRange, fresh}
 use Rattle.listening.proofs.Acts.{heard-not-a-bit}
 use Rattle.listening.proofs.Ranges.{fits-range, fresh-fits, heard-range, heard-inside}
-use Rattle.stretches.specs.Hearing.{Report, message, cj, refusal, noted, reports, Earlier, nothing, earlier, agrees, flagged, agreesAgain, repeated}
+use Rattle.stretches.specs.Hearing.{Report, message, messageOf, cj, refusal, noted, reports, Earlier, nothing, earlier, agrees, flagged, agreesAgain, repeated}
 use Rattle.stretches.specs.Stretch.{AcceptedMessage}
 use Rattle.stretches.specs.Heard.{coded}
 use Rattle.stretches.proofs.Sound.{accepted-readable}
@@ -118,7 +118,7 @@ fresh-flags bytes = flags-since bytes nothing fresh (fits-range fresh fresh-fits
 flagged-bare : (before : Earlier) (told : List Report) → flagged before (bare told) ≡ flagged before told
 unfolding flagged bare
 flagged-bare before [] = refl
-flagged-bare before (message kind octets flag ∷ later) = ap (λ (l : List Report). message kind octets (agrees before kind octets) ∷ l) (flagged-bare (earlier kind octets) later)
+flagged-bare before (message kind octets flag span ∷ later) = ap (λ (l : List Report). message kind octets (agrees before kind octets) span ∷ l) (flagged-bare (earlier kind octets) later)
 flagged-bare before (cj ∷ later) = ap (λ (l : List Report). cj ∷ l) (flagged-bare before later)
 flagged-bare before (refusal n ∷ later) = ap (λ (l : List Report). refusal n ∷ l) (flagged-bare before later)
 
@@ -138,16 +138,16 @@ agrees-again Ci octets accepted = refl
 agrees-again Menu octets accepted = simp (eq-eqb _ _ (accepted-readable Menu octets accepted), same-list octets)
 
 module _ (kind : Kind) (octets : List ℕ) (accepted : AcceptedMessage kind octets) where
-  flagged-later : (n : ℕ) → flagged (earlier kind octets) (replicate n (message kind octets false)) ≡ replicate n (message kind octets (agreesAgain kind))
+  flagged-later : (n : ℕ) → flagged (earlier kind octets) (replicate n (messageOf kind octets false)) ≡ replicate n (messageOf kind octets (agreesAgain kind))
   unfolding flagged
   flagged-later zero = refl
-  flagged-later (suc n) = ap₂ (λ (flag : Bool) (l : List Report). message kind octets flag ∷ l) (agrees-again kind octets accepted) (flagged-later n)
+  flagged-later (suc n) = ap₂ (λ (flag : Bool) (l : List Report). messageOf kind octets flag ∷ l) (agrees-again kind octets accepted) (flagged-later n)
 
   first-alone : (k : Kind) → agrees nothing k octets ≡ false
   first-alone Ci = refl
   first-alone Menu = refl
 
-  pub flagged-repeated : (n : ℕ) → flagged nothing (replicate n (message kind octets false)) ≡ repeated kind octets n
+  pub flagged-repeated : (n : ℕ) → flagged nothing (replicate n (messageOf kind octets false)) ≡ repeated kind octets n
   unfolding flagged
   flagged-repeated zero = refl
-  flagged-repeated (suc n) = ap₂ (λ (flag : Bool) (l : List Report). message kind octets flag ∷ l) (first-alone kind) (flagged-later n)
+  flagged-repeated (suc n) = ap₂ (λ (flag : Bool) (l : List Report). messageOf kind octets flag ∷ l) (first-alone kind) (flagged-later n)

@@ -106,8 +106,8 @@ cj-last past small =
 
 abbrev isCjTold : Told → Bool
 isCjTold silence = false
-isCjTold ci = false
-isCjTold (menu agreed) = false
+isCjTold (ci span) = false
+isCjTold (menu agreed span) = false
 isCjTold cj = true
 isCjTold (refusal n) = false
 
@@ -116,7 +116,7 @@ cj-asked : (act : ℕ) (m last : Message) → isCjTold (told act m last) ≡ tru
 unfolding told toldAlone reported
 cj-asked act m last =
     let Asked : Told → Type 0 = λ (t : Told). isCjTold t ≡ true → act ≡ tellCj in
-    either-way Asked (eqb act report) _ _ (λ _. either-way Asked (eqb (m .kind) 1) ci _ (λ _ e. clash (sym e)) (λ _ e. clash (sym e)))
+    either-way Asked (eqb act report) _ _ (λ _. either-way Asked (eqb (m .kind) 1) (ci _) _ (λ _ e. clash (sym e)) (λ _ e. clash (sym e)))
     (λ _. either-way Asked (ltb act report) silence _ (λ _ e. clash (sym e))
     (λ _. either-way Asked (eqb act tellCj) cj _ (λ is e. eqb-true act tellCj is) (λ _ e. clash (sym e))))
 

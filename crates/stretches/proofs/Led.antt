@@ -11,7 +11,7 @@ use mathlib.Core.List.{List, [], _∷_, _++_, append-assoc, append-nil}
 use borrow.Author.Tests.{eqb-true, eqb-false}
 use lib.Dec.{eqb, ltb, lit<}
 use lib.ListN.{length, take, drop, set, replicate, length-append, length-drop, length-set, take-append-drop}
-use lib.Seq.{take-suc-set}
+use lib.Seq.{take-suc-set, length-take-le}
 use Rattle.laws.specs.Logic.{when}
 use Rattle.laws.proofs.Logic.{either-way, clash}
 use Rattle.octets.specs.declared.Kind.{Kind}
@@ -25,7 +25,7 @@ use Rattle.leaps.proofs.Spans.{hearing-number}
 use Rattle.listening.specs.declared.Listener.{Listener}
 use Rattle.listening.specs.declared.Message.{Message}
 use Rattle.listening.specs.Hearing as telling
-use Rattle.listening.specs.Hearing.{Told, silence, HearOutcome, octetsOf, stored, changed, agreed, reported, told, toldAlone, acted, heardBit}
+use Rattle.listening.specs.Hearing.{Told, silence, HearOutcome, octetsOf, stored, changed, agreed, spanOf, reported, told, toldAlone, acted, heardBit}
 use Rattle.listening.proofs.Acts.{told-report, told-other}
 use Rattle.listening.specs.Record.{fresh}
 use Rattle.listening.proofs.Ranges.{range-fits}
@@ -250,18 +250,18 @@ pub led-heard : (bits : List ℕ) → Bits bits → Led bits (onceHeard fresh bi
 led-heard bits lows = stands-heard bits lows .0
 
 -- what a bit notes where it reports a message, and that it notes none otherwise
-module _ (m last : Message) (kind : Kind) (octets : List ℕ) (flag : Bool) where
+module _ (m last : Message) (kind : Kind) (octets : List ℕ) (flag : Bool) (span : ℕ) where
   abbrev NotesIt : Told → Type 0
-  NotesIt t = noted t m [] ≡ message kind octets flag ∷ []
+  NotesIt t = noted t m [] ≡ message kind octets flag span ∷ []
 
-  report-noted : (kind′ : Kind) → IsOf kind′ m → NotesIt (reported m last) → (kind′ ≡ kind) × (octetsOf m ≡ octets)
+  report-noted : (kind′ : Kind) → IsOf kind′ m → NotesIt (reported m last) → (kind′ ≡ kind) × (octetsOf m ≡ octets) × (spanOf (m .len) ≡ span)
   unfolding reported when
-  report-noted Ci of e = let it : message Ci (octetsOf m) false ∷ [] ≡ message kind octets flag ∷ [] = sym (simp of) ∙ e in (cc, cc)
-  report-noted Menu of e = let it : message Menu (octetsOf m) (agreed m last) ∷ [] ≡ message kind octets flag ∷ [] = sym (simp of) ∙ e in (cc, cc)
+  report-noted Ci of e = let it : message Ci (octetsOf m) false (spanOf (m .len)) ∷ [] ≡ message kind octets flag span ∷ [] = sym (simp of) ∙ e in (cc, cc, cc)
+  report-noted Menu of e = let it : message Menu (octetsOf m) (agreed m last) (spanOf (m .len)) ∷ [] ≡ message kind octets flag span ∷ [] = sym (simp of) ∙ e in (cc, cc, cc)
 
   abbrev isMessage : List Report → Bool
   isMessage [] = false
-  isMessage (message k o f ∷ later) = true
+  isMessage (message k o f n ∷ later) = true
   isMessage (cj ∷ later) = false
   isMessage (refusal n ∷ later) = false
 
@@ -272,24 +272,30 @@ module _ (m last : Message) (kind : Kind) (octets : List ℕ) (flag : Bool) wher
       either-way Not (ltb act report) silence _ (λ _ e. clash (ap isMessage (sym e)))
       (λ _. either-way Not (eqb act tellCj) telling.cj _ (λ _ e. clash (ap isMessage (sym e))) (λ _ e. clash (ap isMessage (sym e))))
 
-module _ (sofar : List ℕ) (bits-sofar : Bits sofar) (bit : ℕ) (low : bit < 2) (kind : Kind) (octets : List ℕ) (flag : Bool) where
+module _ (sofar : List ℕ) (bits-sofar : Bits sofar) (bit : ℕ) (low : bit < 2) (kind : Kind) (octets : List ℕ) (flag : Bool) (span : ℕ) where
   abbrev rec : Listener
   rec = onceHeard fresh sofar
 
   abbrev turn : TurnedAs (rec .ear) (rec .msg .len) bit
   turn = turned-as (rec .ear) (rec .msg .len) bit
 
-  by-act : (is : Bool) → eqb (turn .act) report ≡ is → noted (told (turn .act) (rec .msg) (rec .last)) (changed (rec .msg) (turn .act) (pushed (rec .ear .past) bit)) [] ≡ message kind octets flag ∷ [] → Ends (sequence kind octets ++ tenOnes) (sofar ++ bit ∷ [])
+  -- its bits, with ten 1s before and behind them, and its span
+  abbrev Stood : Type 0
+  Stood = Ends (sequence kind octets ++ tenOnes) (sofar ++ bit ∷ []) × (span ≡ spanOf (length octets))
+
+  by-act : (is : Bool) → eqb (turn .act) report ≡ is → noted (told (turn .act) (rec .msg) (rec .last)) (changed (rec .msg) (turn .act) (pushed (rec .ear .past) bit)) [] ≡ message kind octets flag span ∷ [] → Stood
   unfolding changed when
   by-act true e notes =
       let asked = eqb-true (turn .act) report e in
       let stands = stands-heard sofar bits-sofar in
       let there = reported-there sofar rec bits-sofar (knows-heard sofar bits-sofar) (stands .0) (stands .1) bit low (turn .by) asked in
-      let same = report-noted (rec .msg) (rec .last) kind octets flag (there .0) (there .1) (sym (ap₂ (λ (t : Told) (act : ℕ). noted t (changed (rec .msg) act (pushed (rec .ear .past) bit)) []) (told-report (turn .act) (rec .msg) (rec .last) asked) asked) ∙ notes) in
-      rw (← (same .0), ← (same .1)) (there .2)
-  by-act false e notes = absurd (none-noted _ (rec .last) kind octets flag (turn .act) (ap (λ (t : Told). noted t (changed (rec .msg) (turn .act) (pushed (rec .ear .past) bit)) []) (sym (told-other (turn .act) (rec .msg) (rec .last) (eqb-false (turn .act) report e))) ∙ notes))
+      let same = report-noted (rec .msg) (rec .last) kind octets flag span (there .0) (there .1) (sym (ap₂ (λ (t : Told) (act : ℕ). noted t (changed (rec .msg) act (pushed (rec .ear .past) bit)) []) (told-report (turn .act) (rec .msg) (rec .last) asked) asked) ∙ notes) in
+      let size : length (octetsOf (rec .msg)) ≡ rec .msg .len = length-take-le (rec .msg .len) (rec .msg .octets) (omega (arith, stands .1, range-fits rec (knows-heard sofar bits-sofar .range) .msg .len)) in
+      (rw (← (same .0), ← (same .1)) (there .2), sym (same .2) ∙ ap spanOf (sym size ∙ ap length (same .1)))
+  by-act false e notes = absurd (none-noted _ (rec .last) kind octets flag span (turn .act) (ap (λ (t : Told). noted t (changed (rec .msg) (turn .act) (pushed (rec .ear .past) bit)) []) (sym (told-other (turn .act) (rec .msg) (rec .last) (eqb-false (turn .act) report e))) ∙ notes))
 
-  pub reported-stands : noted (heardBit (onceHeard fresh sofar) bit .report) (heardBit (onceHeard fresh sofar) bit .rec .msg) [] ≡ message kind octets flag ∷ [] → Ends (sequence kind octets ++ tenOnes) (sofar ++ bit ∷ [])
+  pub reported-stands : noted (heardBit (onceHeard fresh sofar) bit .report) (heardBit (onceHeard fresh sofar) bit .rec .msg) [] ≡ message kind octets flag span ∷ []
+      → Ends (sequence kind octets ++ tenOnes) (sofar ++ bit ∷ []) × (span ≡ spanOf (length octets))
   unfolding acted
   reported-stands notes = by-act (eqb (turn .act) report) refl (ap (λ (o : HearOutcome). noted (o .report) (o .rec .msg) []) (sym (heard-turned rec bit (knows-heard sofar bits-sofar .range) low)) ∙ notes)
 

@@ -12,6 +12,8 @@ pub mod Endings
 pub mod Next
 pub mod Syncs
 pub mod Parts
+pub mod Spans
+pub mod Bytes
 pub mod Copies
 pub mod Hunting
 pub mod Cuts

@@ -18,8 +18,8 @@ use Rattle.stretches.specs.Hearing.{Report, noted, reports, Handed, all,
 
 is-silence : (t : Told) → silent t ≡ true → t ≡ silence
 is-silence silence e = refl
-is-silence ci e = clash (sym e)
-is-silence (menu agreed) e = clash (sym e)
+is-silence (ci span) e = clash (sym e)
+is-silence (menu agreed span) e = clash (sym e)
 is-silence cj e = clash (sym e)
 is-silence (refusal n) e = clash (sym e)
 

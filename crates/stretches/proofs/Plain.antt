@@ -34,22 +34,22 @@ plainly rec bit =
 -- reports of which none says that its menu is agreed
 abbrev unflagged : Told → Told
 unflagged silence = silence
-unflagged ci = ci
-unflagged (menu agreed) = menu false
+unflagged (ci span) = ci span
+unflagged (menu agreed span) = menu false span
 unflagged telling.cj = telling.cj
 unflagged (telling.refusal n) = telling.refusal n
 
 unfoldable pub bare : List Report → List Report
 bare [] = []
-bare (message kind octets flag ∷ later) = message kind octets false ∷ bare later
+bare (message kind octets flag span ∷ later) = message kind octets false span ∷ bare later
 bare (cj ∷ later) = cj ∷ bare later
 bare (refusal n ∷ later) = refusal n ∷ bare later
 
 bare-noted : (told : Told) (m : Message) (later : List Report) → bare (noted told m later) ≡ noted (unflagged told) m (bare later)
 unfolding bare
 bare-noted silence m later = refl
-bare-noted ci m later = refl
-bare-noted (menu agreed) m later = refl
+bare-noted (ci span) m later = refl
+bare-noted (menu agreed span) m later = refl
 bare-noted telling.cj m later = refl
 bare-noted (telling.refusal n) m later = refl
 
@@ -64,8 +64,8 @@ after rec (bit ∷ bits) = after (plainly rec bit .rec) bits
 
 noted-append : (told : Told) (m : Message) (a b : List Report) → noted told m (a ++ b) ≡ noted told m a ++ b
 noted-append silence m a b = refl
-noted-append ci m a b = refl
-noted-append (menu agreed) m a b = refl
+noted-append (ci span) m a b = refl
+noted-append (menu agreed span) m a b = refl
 noted-append telling.cj m a b = refl
 noted-append (telling.refusal n) m a b = refl
 

@@ -13,7 +13,7 @@ use Rattle.sequences.specs.Line.{framedAll, tenOnes, sync, sequence, copies, cj
 use Rattle.sequences.proofs.Lines.{sequence-length}
 use Rattle.listening.specs.Record.{fresh}
 use Rattle.stretches.specs.Stretch.{AcceptedMessage, stretch, Long, Nowhere, flag}
-use Rattle.stretches.specs.Hearing.{Report, message, repeated, Reads}
+use Rattle.stretches.specs.Hearing.{Report, messageOf, repeated, Reads}
 use Rattle.stretches.proofs.Each.{Each, each-drop, each-take}
 use Rattle.stretches.proofs.Standing.{nowhere-take, nowhere-drop}
 use Rattle.stretches.proofs.Sound.{Sound, accepted-sound}
@@ -39,7 +39,7 @@ module _ (kind : Kind) (octets : List ℕ) (accepted : AcceptedMessage kind octe
   line = sequence kind octets
 
   abbrev told : Report
-  told = message kind octets false
+  told = messageOf kind octets false
 
   sound : Each Sound octets
   sound = accepted-sound kind octets accepted

@@ -5,7 +5,7 @@ use Prim.Native.Nat.{ℕ, _<_, _≤_, _+_, _*_}
 use native.Mathlib.Numerals.{add-one}
 use native.Mathlib.Nat.{mod-eq-of-lt}
 use native.Mathlib.Omega.{arith}
-use mathlib.Core.Path.{_≡_, refl, sym, ap, subst, _∙_}
+use mathlib.Core.Path.{_≡_, refl, sym, ap, ap₂, subst, _∙_}
 use mathlib.Core.Bool.{false}
 use mathlib.Core.List.{List, [], _∷_, _++_, append-assoc, append-nil}
 use borrow.Author.Tests.{eq-eqb, ne-eqb}
@@ -22,10 +22,10 @@ use Rattle.sequences.specs.Line.{framed, framedAll, tenOnes, sync, sequence}
 use Rattle.listening.specs.declared.Message.{Message}
 use Rattle.listening.specs.declared.Listener.{Listener}
 use Rattle.framing.specs.Framing.{pushed, lastTen, octetOf, inSync, boundary, go, hunted, synced, bounded, stopped, ended, placed}
-use Rattle.listening.specs.Hearing.{changed, reported, told, toldAlone, acted}
+use Rattle.listening.specs.Hearing.{spanOf, changed, reported, told, toldAlone, acted}
 use Rattle.framing.proofs.Places.{startOf}
 use Rattle.framing.proofs.Words.{hearing}
-use Rattle.stretches.specs.Hearing.{Report, message}
+use Rattle.stretches.specs.Hearing.{Report, message, messageOf}
 use Rattle.stretches.specs.Heard.{coded}
 use Rattle.stretches.proofs.Each.{Each, none, more, Bits, bits-by}
 use Rattle.stretches.proofs.Sound.{Sound, sound-shape}
@@ -62,7 +62,7 @@ ones-hunting : (past : ℕ) (msg : Message) {rec : Listener} → At 0 past msg r
 unfolding plain after acted placed hunted told toldAlone changed when both
 ones-hunting past msg (here heard last) = record { tells = refl; leaves = here _ _ }
 
-ones-ending : (kind : Kind) (past len : ℕ) (array : List ℕ) {rec : Listener} → At 10 past (holding kind len array) rec → Goes rec tenOnes (message kind (take len array) false ∷ []) (At 0 (hearing past tenOnes) (holding kind len array))
+ones-ending : (kind : Kind) (past len : ℕ) (array : List ℕ) {rec : Listener} → At 10 past (holding kind len array) rec → Goes rec tenOnes (message kind (take len array) false (spanOf len) ∷ []) (At 0 (hearing past tenOnes) (holding kind len array))
 unfolding plain after acted placed bounded ended told toldAlone reported changed when both
 ones-ending Ci past len array (here heard last) = record { tells = refl; leaves = here _ _ }
 ones-ending Menu past len array (here heard last) = record { tells = refl; leaves = here _ _ }
@@ -178,8 +178,10 @@ prime past msg small full rec place = record {
 pub ones-idle : (rec : Listener) → Idle rec → Goes rec tenOnes [] Primed
 ones-idle rec idle = goes-with (ones-hunting (idle .past) (idle .msg) (idle .place)) (prime (idle .past) (idle .msg) (idle .small) (idle .full))
 
-pub ones-held : (kind : Kind) (octets : List ℕ) (rec : Listener) → Held kind octets rec → Goes rec tenOnes (message kind octets false ∷ []) Primed
-ones-held kind octets rec held = rw (← (held .stored)) (goes-with (ones-ending kind (held .past) (held .len) (held .array) (held .place)) (prime (held .past) (holding kind (held .len) (held .array)) (held .small) (held .full)))
+pub ones-held : (kind : Kind) (octets : List ℕ) (rec : Listener) → Held kind octets rec → Goes rec tenOnes (messageOf kind octets false ∷ []) Primed
+ones-held kind octets rec held =
+    subst (λ (told : Report). Goes rec tenOnes (told ∷ []) Primed) (ap₂ (λ (l : List ℕ) (n : ℕ). message kind l false (spanOf n)) (held .stored) (held .count))
+    (goes-with (ones-ending kind (held .past) (held .len) (held .array) (held .place)) (prime (held .past) (holding kind (held .len) (held .array)) (held .small) (held .full)))
 
 sync-whole : (kind : Kind) → (0 ∷ []) ++ between kind ++ (1 ∷ []) ≡ sync kind
 sync-whole Ci = refl
@@ -231,5 +233,5 @@ module _ (kind : Kind) (octets : List ℕ) (sound : Each Sound octets) (room : l
   pub idle-sequence : (rec : Listener) → Idle rec → Goes rec (sequence kind octets) [] (Held kind octets)
   idle-sequence rec idle = behind-ones (ones-idle rec idle)
 
-  pub held-sequence : (kind′ : Kind) (octets′ : List ℕ) (rec : Listener) → Held kind′ octets′ rec → Goes rec (sequence kind octets) (message kind′ octets′ false ∷ []) (Held kind octets)
+  pub held-sequence : (kind′ : Kind) (octets′ : List ℕ) (rec : Listener) → Held kind′ octets′ rec → Goes rec (sequence kind octets) (messageOf kind′ octets′ false ∷ []) (Held kind octets)
   held-sequence kind′ octets′ rec held = behind-ones (ones-held kind′ octets′ rec held)

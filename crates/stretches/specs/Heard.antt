@@ -2,7 +2,9 @@
 use Prim.Native.Nat.{ℕ, _+_, _<_}
 use mathlib.Core.Path.{_≡_}
 use mathlib.Core.List.{List, [], _∷_, _++_}
+use lib.Dec.{ltb, eqb}
 use lib.ListN.{length, replicate}
+use Rattle.laws.specs.Logic.{when}
 use Rattle.octets.specs.declared.Kind.{Kind}
 use Rattle.octets.specs.declared.Kind.the-variants.{Ci, Menu}
 use Rattle.sequences.specs.Line.{tenOnes, sequence}
@@ -34,6 +36,17 @@ pub data Led (bits : List ℕ) (m : Message) (place : ℕ) : Type 0 where
   fills : (kind : Kind) (data′ : List ℕ) → IsOf kind m → length data′ < 9 → Ends (sequence kind (octetsOf m) ++ 0 ∷ data′) bits → place ≡ inOctet + length data′ → Led bits m place
   -- ".. and 1 ends the sequence": 1s "in a row, counted from the boundary"
   ends : (kind : Kind) (n : ℕ) → IsOf kind m → n < 9 → Ends (sequence kind (octetsOf m) ++ 1 ∷ replicate n 1) bits → place ≡ endingOnes + n → Led bits m place
+
+-- the bits among bytes: one that is no bit is refused with 1, and not heard
+unfoldable pub bitsIn : List ℕ → List ℕ
+bitsIn [] = []
+bitsIn (byte ∷ bytes) = when (ltb 1 byte) (bitsIn bytes) (byte ∷ bitsIn bytes)
+
+-- document 02, Req 05: "the number of bits from its sync's first bit", counted while they are heard: 1 with the bit that starts a sync, and one more
+-- with every other; a byte that is no bit is not counted
+unfoldable pub counted : Listener → List ℕ → ℕ → ℕ
+counted rec [] n = n
+counted rec (byte ∷ bytes) n = counted (heardBit rec byte .rec) bytes (when (ltb 1 byte) n (when (eqb (heardBit rec byte .rec .ear .place) inSync) 1 (n + 1)))
 
 -- what a bit brings: what it tells, the place behind it, the message that is held there, and the one that was reported last
 pub record Brings (rec : Listener) (bit : ℕ) (t : Told) (next : ℕ) (m before : Message) : Type 0 where

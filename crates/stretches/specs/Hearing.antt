@@ -3,7 +3,7 @@ use Prim.Native.Nat.{ℕ, zero, suc}
 use mathlib.Core.Path.{_≡_}
 use mathlib.Core.Bool.{Bool, true, false}
 use mathlib.Core.List.{List, [], _∷_, _++_}
-use lib.ListN.{drop, replicate}
+use lib.ListN.{length, drop, replicate}
 use Rattle.laws.specs.Logic.{both}
 use Rattle.laws.specs.Tests.{sameList}
 use Rattle.octets.specs.declared.Kind.{Kind}
@@ -13,7 +13,8 @@ use Rattle.sequences.specs.Line.{sequence}
 use Rattle.listening.specs.declared.Message.{Message}
 use Rattle.listening.specs.declared.Listener.{Listener}
 use Rattle.listening.specs.Hearing as hearing
-use Rattle.listening.specs.Hearing.{Told, silence, ci, menu, octetsOf, heardBit, heardBits}
+use Rattle.listening.specs.Hearing.{Told, silence, ci, menu, octetsOf, spanOf, heardBit, heardBits}
+use Rattle.listening.specs.Spans.{Spanned, spans}
 use Rattle.listening.specs.Record.{fresh}
 use Rattle.stretches.specs.Stretch.{AcceptedMessage}
 
@@ -22,24 +23,35 @@ unfoldable pub onceHeard : Listener → List ℕ → Listener
 onceHeard rec [] = rec
 onceHeard rec (bit ∷ bits) = onceHeard (heardBit rec bit .rec) bits
 
--- a report: a message, in kind and in every octet, and whether it is an agreed menu; CJ; or a refusal's number
+-- a report: a message, in kind and in every octet, whether it is an agreed menu, and its span; CJ; or a refusal's number
 pub data Report : Type 0 where
-  message : Kind → List ℕ → Bool → Report
+  message : Kind → List ℕ → Bool → ℕ → Report
   cj : Report
   refusal : ℕ → Report
 
 -- what a bit tells, with the octets that stand readable then, in front of the later reports
 abbrev pub noted : Told → Message → List Report → List Report
 noted silence m later = later
-noted ci m later = message Ci (octetsOf m) false ∷ later
-noted (menu agreed) m later = message Menu (octetsOf m) agreed ∷ later
+noted (ci span) m later = message Ci (octetsOf m) false span ∷ later
+noted (menu agreed span) m later = message Menu (octetsOf m) agreed span ∷ later
 noted hearing.cj m later = cj ∷ later
 noted (hearing.refusal n) m later = refusal n ∷ later
+
+-- a message with the span that one of so many octets has
+abbrev pub messageOf : Kind → List ℕ → Bool → Report
+messageOf kind octets agreed = message kind octets agreed (spanOf (length octets))
 
 -- all reports on the bits, in order
 unfoldable pub reports : Listener → List ℕ → List Report
 reports rec [] = []
 reports rec (bit ∷ bits) = noted (heardBit rec bit .report) (heardBit rec bit .rec .msg) (reports (heardBit rec bit .rec) bits)
+
+-- document 02, Req 05: the span of the last message among reports, or what was told before them
+unfoldable pub lastOf : Spanned → List Report → Spanned
+lastOf before [] = before
+lastOf before (message kind octets agreed n ∷ later) = lastOf (spans n) later
+lastOf before (cj ∷ later) = lastOf before later
+lastOf before (refusal number ∷ later) = lastOf before later
 
 -- the bits of a line in parts, as they arrive, and a host that calls for many bits again and again: what a call did not take of a part comes
 -- with the next call, and what it reports is noted
@@ -64,7 +76,7 @@ agrees (earlier Menu octets′) Menu octets = both (readable octets) (sameList o
 -- reports, each menu agreed or not by the message before it: "refusals and CJ between them don't matter, a CI between them does"
 unfoldable pub flagged : Earlier → List Report → List Report
 flagged before [] = []
-flagged before (message kind octets flag ∷ later) = message kind octets (agrees before kind octets) ∷ flagged (earlier kind octets) later
+flagged before (message kind octets flag span ∷ later) = message kind octets (agrees before kind octets) span ∷ flagged (earlier kind octets) later
 flagged before (cj ∷ later) = cj ∷ flagged before later
 flagged before (refusal n ∷ later) = refusal n ∷ flagged before later
 
@@ -80,7 +92,7 @@ lineOf (sent kind octets accepted later) = sequence kind octets ++ lineOf later
 
 abbrev pub messagesOf : Sent → List Report
 messagesOf none-sent = []
-messagesOf (sent kind octets accepted later) = message kind octets false ∷ messagesOf later
+messagesOf (sent kind octets accepted later) = messageOf kind octets false ∷ messagesOf later
 
 -- a message so many times and nothing else: a menu is agreed from the second time on
 abbrev pub agreesAgain : Kind → Bool
@@ -89,7 +101,7 @@ agreesAgain Menu = true
 
 abbrev pub repeated : Kind → List ℕ → ℕ → List Report
 repeated kind octets zero = []
-repeated kind octets (suc n) = message kind octets false ∷ replicate n (message kind octets (agreesAgain kind))
+repeated kind octets (suc n) = messageOf kind octets false ∷ replicate n (messageOf kind octets (agreesAgain kind))
 
 -- a fresh reader "reports that message first", perhaps again, and nothing else: no other message, "no refusal or CJ"
 pub record Reads (kind : Kind) (octets bits : List ℕ) : Type 0 where

@@ -21,6 +21,8 @@ ghost use Rattle.fields.specs.Blocks.{walked, blockAt, blockOf};
 ghost use Rattle.fields.specs.Field.{fieldRead};
 ghost use Rattle.choices.specs.Choosing.{choiceOf};
 ghost use Rattle.offers.specs.Making.{sourceOf, madeCm, madeJm};
+ghost use Rattle.listening.specs.Spans.{lastSpan};
+ghost use Rattle.codes.specs.Hearing.{spanCode};
 ghost use Rattle.codes.specs.Choosing.{choiceCode, sourceCode};
 ghost use Rattle.sequences.specs.Writing.{writtenCj};
 ghost use Rattle.steps.specs.Session.{answererFrom, defaultTe, saysStarted, startedCaller};
@@ -101,6 +103,14 @@ pub extern "C" fn tailsprig_hear_many(rec: Listener, bits: &[u8]) -> Ran
         taken: ran.taken,
         code: codes::heard_code(report),
     }
+}
+
+// The span of the message reported last, 0 where none was.
+#[no_mangle]
+pub extern "C" fn tailsprig_last_span(rec: Listener) -> i32
+    ensures { λ r. ⌜ r ≡ spanCode (lastSpan rec) ⌝ }
+{
+    codes::span_code(listening::last_span(rec))
 }
 
 // A menu as C gets it: 0 and what it offers, or a refusal and nothing.

@@ -1,0 +1,91 @@
+-- What a span says of the bits heard: it is what was counted, and since the message stands on the line, the last so many bits of it are its sync, its octets
+-- and ten 1s. A byte that is no bit reports no message.
+-- Assumes nothing.
+use Prim.Native.Nat.{ℕ, _<_, _+_, _-_}
+use native.Mathlib.Omega.{arith}
+use mathlib.Core.Path.{_≡_, refl, sym, ap, subst, _∙_}
+use mathlib.Core.Bool.{Bool, true, false}
+use mathlib.Core.List.{List, [], _∷_, _++_, append-assoc}
+use borrow.Author.Tests.{ltb-true, ltb-false}
+use lib.Dec.{ltb}
+use lib.ListN.{length, take, drop, length-append}
+use lib.Seq.{take-append-seam, drop-append-seam}
+use Rattle.laws.specs.Logic.{when, both, either}
+use Rattle.laws.specs.Tests.{sameList}
+use Rattle.laws.proofs.Logic.{clash}
+use Rattle.octets.specs.declared.Kind.{Kind}
+use Rattle.octets.specs.Lists.{firstFault}
+use Rattle.sequences.specs.Line.{framed, framedAll, tenOnes, sync, sequence}
+use Rattle.sequences.specs.Line.{cj as cjBits}
+use Rattle.sequences.proofs.Lines.{framed-length}
+use Rattle.framing.specs.Framing.{more, isCj, refusalIn, hunted, synced, bounded, stopped, ended, placed, turned}
+use Rattle.listening.specs.declared.Listener.{Listener}
+use Rattle.listening.specs.Hearing.{HearOutcome, spanOf, changed, agreed, reported, told, toldAlone, acted, heardIn, heardBit}
+use Rattle.listening.specs.Record.{fresh}
+use Rattle.listening.proofs.Acts.{heard-not-a-bit}
+use Rattle.listening.proofs.Ranges.{fits-range, fresh-fits, heard-inside}
+use Rattle.stretches.specs.Stretch.{Ends}
+use Rattle.stretches.specs.Hearing.{Report, message, cj, refusal, noted, reports}
+use Rattle.stretches.specs.Heard.{bitsIn}
+use Rattle.stretches.proofs.Heard.{knows-heard}
+use Rattle.stretches.proofs.Led.{sync-length, reported-stands}
+use Rattle.stretches.proofs.Bytes.{bits-line, bits-among, bits-behind}
+use Rattle.stretches.proofs.Spans.{last-heard, report-counted}
+use Rattle.demands.specs.Heard.{line}
+use Rattle.demands.specs.Spans.{Reports, BeganThere, SpansTellWhereMessagesBegan}
+
+regroup : (a t s f u : List ℕ) → a ++ t ++ (s ++ (f ++ u)) ≡ a ++ (t ++ s ++ f ++ u)
+regroup a t s f u = simp append-assoc
+
+module _ (kind : Kind) (octets : List ℕ) (n : ℕ) (bits : List ℕ) where
+  began-there : Ends (sequence kind octets ++ tenOnes) bits → n ≡ spanOf (length octets) → BeganThere kind octets n bits
+  unfolding sequence
+  began-there stands is =
+      let front = stands .0 ++ tenOnes in
+      let message-bits = sync kind ++ (framedAll octets ++ tenOnes) in
+      let parted : front ++ message-bits ≡ bits = regroup (stands .0) tenOnes (sync kind) (framedAll octets) tenOnes ∙ stands .1 in
+      let size : length message-bits ≡ n = omega (arith, is, length-append (sync kind) (framedAll octets ++ tenOnes), sync-length kind, length-append (framedAll octets) tenOnes, framed-length octets) in
+      let whole : length bits ≡ length front + n = sym (ap length parted) ∙ length-append front message-bits ∙ ap (λ (k : ℕ). length front + k) size in
+      let before : length bits - n ≡ length front = omega (arith, whole) in
+      let taken : take (length bits - n) bits ≡ front = ap (λ (k : ℕ). take k bits) before ∙ ap (take (length front)) (sym parted) ∙ take-append-seam front message-bits in
+      record {
+        inside = omega (arith, whole);
+        behind = (stands .0, sym taken);
+        from = ap (λ (k : ℕ). drop k bits) before ∙ ap (drop (length front)) (sym parted) ∙ drop-append-seam front message-bits;
+      }
+
+abbrev isMessage : List Report → Bool
+isMessage [] = false
+isMessage (message kind octets flag n ∷ later) = true
+isMessage (cj ∷ later) = false
+isMessage (refusal n ∷ later) = false
+
+module _ (bytes : List ℕ) (byte : ℕ) (kind : Kind) (octets : List ℕ) (flag : Bool) (n : ℕ) (reported-so : Reports bytes byte kind octets flag n) where
+  among : line bytes ≡ line (bitsIn bytes)
+  among = bits-line bytes fresh (fits-range fresh fresh-fits)
+
+  is-bit : (high : Bool) → ltb 1 byte ≡ high → byte < 2
+  is-bit true e =
+      let inside = knows-heard (bitsIn bytes) (bits-among bytes) .range in
+      let refused = heard-inside (line (bitsIn bytes)) byte inside ∙ heard-not-a-bit (line (bitsIn bytes)) byte (ltb-true 1 byte e) in
+      clash (ap isMessage (sym reported-so ∙ ap (λ (o : HearOutcome). noted (o .report) (o .rec .msg) []) (ap (λ (rec : Listener). heardBit rec byte) among ∙ refused)))
+  is-bit false e = omega (arith, ltb-false 1 byte e)
+
+  low : byte < 2
+  low = is-bit (ltb 1 byte) refl
+
+  stood : Ends (sequence kind octets ++ tenOnes) (bitsIn bytes ++ byte ∷ []) × (n ≡ spanOf (length octets))
+  stood = reported-stands (bitsIn bytes) (bits-among bytes) byte low kind octets flag n (subst (λ (rec : Listener). noted (heardBit rec byte .report) (heardBit rec byte .rec .msg) [] ≡ message kind octets flag n ∷ []) among reported-so)
+
+  began-so : BeganThere kind octets n (bitsIn (bytes ++ byte ∷ []))
+  began-so = rw (bits-behind bytes byte low) (began-there kind octets n (bitsIn bytes ++ byte ∷ []) (stood .0) (stood .1))
+
+pub spans-tell-where-messages-began : SpansTellWhereMessagesBegan
+unfolding when both either sameList framed framedAll sequence cjBits more isCj refusalIn hunted synced bounded stopped ended placed turned changed agreed reported told toldAlone acted heardIn reports firstFault
+spans-tell-where-messages-began = record {
+  counts = report-counted;
+  began = began-so;
+  number = λ bytes byte kind octets flag n so. stood bytes byte kind octets flag n so .1;
+  example = refl;
+  asked = last-heard;
+}
