@@ -86,7 +86,7 @@ pub fn heard_code(h: Heard) -> i32
     match h {
         Heard::Nothing => 0,
         Heard::Ci(_) => 1,
-        Heard::Menu(agreed, _) => { if agreed { 3 } else { 2 } }
+        Heard::Menu(_, agreed) => { if agreed { 3 } else { 2 } }
         Heard::Cj => 4,
         Heard::Refused(r) => refusal_code(r),
     }

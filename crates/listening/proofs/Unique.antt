@@ -18,14 +18,14 @@ use Rattle.listening.specs.Spans as spanning
 abbrev saying : Told → Heard
 saying silence = Nothing
 saying (ci span) = Ci span
-saying (menu agreed span) = Menu agreed span
+saying (menu agreed span) = Menu span agreed
 saying cj = Cj
 saying (refusal n) = Refused (named n)
 
 said : (h : Heard) → saying (saysHeard h) ≡ h
 said Nothing = refl
 said (Ci span) = refl
-said (Menu agreed span) = refl
+said (Menu span agreed) = refl
 said Cj = refl
 said (Refused r) = ap Refused (named-number r)
 

@@ -33,7 +33,7 @@ pub data Told : Type 0 where
 abbrev pub saysHeard : Heard → Told
 saysHeard Nothing = silence
 saysHeard (Ci span) = ci span
-saysHeard (Menu agreed span) = menu agreed span
+saysHeard (Menu span agreed) = menu agreed span
 saysHeard Cj = cj
 saysHeard (Refused r) = refusal (number r)
 

@@ -35,11 +35,11 @@ pub struct Listener {
 }
 
 // What a bit reports. A message carries its span, the number of bits from the first of its sync to the one that reports it, both counted;
-// a menu is agreed or not.
+// behind it a menu says whether it is agreed. With that in front a record of many bits would be copied once more.
 pub enum Heard {
     Nothing,
     Ci(u16),
-    Menu(bool, u16),
+    Menu(u16, bool),
     Cj,
     Refused(Refusal),
 }
@@ -155,7 +155,7 @@ fn report_of(m: Message, last: Message) -> Heard
     if kind == CI {
         return Heard::Ci(span);
     }
-    Heard::Menu(agree(m, last), span)
+    Heard::Menu(span, agree(m, last))
 }
 
 // What an act tells that reports no message.
@@ -319,28 +319,28 @@ fn run(rec: Listener, bits: &[u8]) -> BitsHeard
         ear = a.ear;
         i = a.at;
         let act = a.act;
-        // what `tell` would say; the compiler puts it in place only where a report stands apart
-        if act == REPORT {
-            return BitsHeard {
-                rec: listener_of(ear, act_on(msg, last, act, ear.past)),
-                taken: i,
-                report: report_of(msg, last),
-            };
-        }
-        if REPORT < act {
-            return BitsHeard {
-                rec: listener_of(ear, act_on(msg, last, act, ear.past)),
-                taken: i,
-                report: tell_alone(act),
-            };
-        }
         if act == STORE {
-            // as `put` does it, but in place: an octet comes often, and the message is large
+            // as `put` does it, but in place and before all else: an octet comes often, and the message is large
             let n = msg.len % MOST_OCTETS;
             let at = n as usize;
             msg.octets[at] = framing::octet_heard(ear.past);
             msg.len = n + 1;
         } else {
+            // what `tell` would say; the compiler puts it in place only where a report stands apart
+            if act == REPORT {
+                return BitsHeard {
+                    rec: listener_of(ear, act_on(msg, last, act, ear.past)),
+                    taken: i,
+                    report: report_of(msg, last),
+                };
+            }
+            if REPORT < act {
+                return BitsHeard {
+                    rec: listener_of(ear, act_on(msg, last, act, ear.past)),
+                    taken: i,
+                    report: tell_alone(act),
+                };
+            }
             msg = change(msg, act, ear.past);
         }
     }

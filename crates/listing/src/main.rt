@@ -40,17 +40,34 @@ fn put_octets(out: &mut [u8], at: usize, octets: &[u8]) -> usize
     n
 }
 
-// A message: the place, the word for it with the tabs around it, its octets and its span.
-fn put_fields(out: &mut [u8], at: usize, place: u64, what: &[u8], octets: &[u8], span: u16) -> usize
+// Behind the word for a message: its octets and its span.
+fn put_fields(out: &mut [u8], at: usize, octets: &[u8], span: u16) -> usize
+    requires { ⌜ at ≤ length (now out) ⌝ }
+    ensures { λ r. ⌜ r ≤ length (now (out .exit)) ⌝ }
+{
+    let n = put_octets(out, at, octets);
+    let m = put_text(out, n, b"\t");
+    let k = put_decimal(out, m, span as u64);
+    put_text(out, k, b"\n")
+}
+
+// A CI, and below a menu. Each writes its own word: to hand it on takes longer than all that a span costs.
+fn put_ci(out: &mut [u8], at: usize, place: u64, octets: &[u8], span: u16) -> usize
     requires { ⌜ at ≤ length (now out) ⌝ }
     ensures { λ r. ⌜ r ≤ length (now (out .exit)) ⌝ }
 {
     let n = put_decimal(out, at, place);
-    let m = put_text(out, n, what);
-    let k = put_octets(out, m, octets);
-    let j = put_text(out, k, b"\t");
-    let e = put_decimal(out, j, span as u64);
-    put_text(out, e, b"\n")
+    let m = put_text(out, n, b"\tCI\t");
+    put_fields(out, m, octets, span)
+}
+
+fn put_menu(out: &mut [u8], at: usize, place: u64, octets: &[u8], span: u16) -> usize
+    requires { ⌜ at ≤ length (now out) ⌝ }
+    ensures { λ r. ⌜ r ≤ length (now (out .exit)) ⌝ }
+{
+    let n = put_decimal(out, at, place);
+    let m = put_text(out, n, b"\tMENU\t");
+    put_fields(out, m, octets, span)
 }
 
 fn put_cj(out: &mut [u8], at: usize, place: u64) -> usize
@@ -78,8 +95,8 @@ fn put_line(out: &mut [u8], at: usize, place: u64, report: Heard, octets: &[u8])
 {
     match report {
         Heard::Nothing => at,
-        Heard::Ci(span) => put_fields(out, at, place, b"\tCI\t", octets, span),
-        Heard::Menu(_, span) => put_fields(out, at, place, b"\tMENU\t", octets, span),
+        Heard::Ci(span) => put_ci(out, at, place, octets, span),
+        Heard::Menu(span, _) => put_menu(out, at, place, octets, span),
         Heard::Cj => put_cj(out, at, place),
         Heard::Refused(r) => put_refusal(out, at, place, refusals::refusal_number(r)),
     }

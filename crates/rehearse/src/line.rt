@@ -345,7 +345,7 @@ fn told_of(report: Heard) -> u8 {
     match report {
         Heard::Nothing => NOTHING,
         Heard::Ci(_) => CI,
-        Heard::Menu(agreed, _) => { if agreed { AGREED } else { MENU } }
+        Heard::Menu(_, agreed) => { if agreed { AGREED } else { MENU } }
         Heard::Cj => CJ,
         Heard::Refused(r) => refused(r),
     }

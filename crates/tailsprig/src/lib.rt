@@ -3,6 +3,7 @@ use codes::Asked;
 use fields::Block;
 use fields::Walk;
 use framing::NOTHING;
+use listening::Heard;
 use listening::Listener;
 use menus::Offer;
 use menus::ReadMenu;
@@ -13,7 +14,7 @@ use steps::Session;
 use steps::Started;
 ghost use mathlib.Core.Path.{_≡_};
 ghost use Rattle.listening.specs.Record.{fresh};
-ghost use Rattle.listening.specs.Hearing.{heardBit, heardBits};
+ghost use Rattle.listening.specs.Hearing.{saysHeard, heardBit, heardBits};
 ghost use lib.ListN.{length};
 ghost use Rattle.menus.specs.Groups.{looked, partAt};
 ghost use Rattle.menus.specs.Offer.{menuRead};
@@ -90,19 +91,25 @@ pub extern "C" fn tailsprig_hear(rec: &mut Listener, bit: u8) -> i32
     0
 }
 
+// The record goes on as the field that it is: bound to a name it would be copied once more.
+fn ran_of(rec: Listener, taken: usize, report: Heard) -> Ran
+    ensures { λ r. ⌜ RunsAs (record { report = saysHeard report; rec = rec; taken = taken }) r ⌝ }
+{
+    Ran {
+        rec: rec,
+        taken: taken,
+        code: codes::heard_code(report),
+    }
+}
+
 // Many bits, up to the first that reports something.
 #[no_mangle]
 pub extern "C" fn tailsprig_hear_many(rec: Listener, bits: &[u8]) -> Ran
     ensures { λ r. ⌜ RunsAs (heardBits rec (now (bits .entry))) r ⌝ }
 {
     let ran = listening::hear_many(rec, bits);
-    let next = ran.rec;
     let report = ran.report;
-    Ran {
-        rec: next,
-        taken: ran.taken,
-        code: codes::heard_code(report),
-    }
+    ran_of(ran.rec, ran.taken, report)
 }
 
 // The span of the message reported last, 0 where none was.

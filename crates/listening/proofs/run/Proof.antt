@@ -49,6 +49,28 @@ loop-holds c = refl
 advance-requires : tie.Need-advance-requires Inv-loop μ-loop
 advance-requires c κs = search needs
 
+cast-at : tie.Need-cast-at Inv-loop μ-loop
+cast-at c = search needs
+
+octet-heard-requires : tie.Need-octet-heard-requires Inv-loop μ-loop
+octet-heard-requires c κs = search needs
+
+element-write-msg : tie.Need-element-write-msg Inv-loop μ-loop
+element-write-msg c = search needs
+
+add-msg : tie.Need-add-msg Inv-loop μ-loop
+add-msg c = search needs
+
+loop-less : tie.Need-loop-less Inv-loop μ-loop
+loop-less c = let some = taken (c .before .before .before) in search needs
+
+loop-again : tie.Need-loop-again Inv-loop μ-loop
+loop-again c =
+    let after = c .before .before .before in
+    let a = after .advance .result in
+    let stores = c .before .if1 .taken in
+    rw (c .octet-heard .ensures, ← changed-store (after .before .before .loop .msg) (a .act) (a .ear .past) stores) (quiet after (omega (arith, stores)))
+
 act-on-requires : tie.Need-act-on-requires Inv-loop μ-loop
 act-on-requires c κs = search needs
 
@@ -62,9 +84,9 @@ returns : tie.Need-returns Inv-loop μ-loop
 unfolding acted
 returns c =
     let asked = c .before .before .before in
-    let after = asked .before .before in
+    let after = asked .before .before .before in
     let at-loop = after .before .before in
-    let reports = asked .if1 .taken in
+    let reports = asked .if2 .taken in
     rw (goes after ∙ onward-told (held at-loop) (now (after .before .before .before .before .before .before .before .args .bits)) (after .advance .result) (omega (arith, reports)))
     (record { report = c .report-of .ensures ∙ sym (told-report (after .advance .result .act) (at-loop .loop .msg) (held at-loop .last) reports); rec = c .before .listener-of .ensures ∙ ap (listenerOf (after .advance .result .ear)) (c .before .before .act-on .ensures); taken = refl })
 
@@ -81,32 +103,11 @@ returns-2 : tie.Need-returns-2 Inv-loop μ-loop
 unfolding acted
 returns-2 c =
     let asked = c .before .before .before in
-    let after = asked .before .before .before in
+    let after = asked .before .before .before .before in
     let at-loop = after .before .before in
-    let other : after .advance .result .act ≡ 4 → ⊥ = λ e. asked .before .if1 .left e in
-    rw (goes after ∙ onward-told (held at-loop) (now (after .before .before .before .before .before .before .before .args .bits)) (after .advance .result) (omega (arith, asked .if2 .taken)))
+    let other : after .advance .result .act ≡ 4 → ⊥ = λ e. asked .before .if2 .left e in
+    rw (goes after ∙ onward-told (held at-loop) (now (after .before .before .before .before .before .before .before .args .bits)) (after .advance .result) (omega (arith, asked .if3 .taken)))
     (record { report = c .tell-alone .ensures ∙ sym (told-other (after .advance .result .act) (at-loop .loop .msg) (held at-loop .last) other); rec = c .before .listener-of2 .ensures ∙ ap (listenerOf (after .advance .result .ear)) (c .before .before .act-on2 .ensures); taken = refl })
-
-cast-at : tie.Need-cast-at Inv-loop μ-loop
-cast-at c = search needs
-
-octet-heard-requires : tie.Need-octet-heard-requires Inv-loop μ-loop
-octet-heard-requires c κs = search needs
-
-element-write-msg : tie.Need-element-write-msg Inv-loop μ-loop
-element-write-msg c = search needs
-
-add-msg : tie.Need-add-msg Inv-loop μ-loop
-add-msg c = search needs
-
-loop-less : tie.Need-loop-less Inv-loop μ-loop
-loop-less c = let some = taken (c .before .before .before .before .before) in search needs
-
-loop-again : tie.Need-loop-again Inv-loop μ-loop
-loop-again c =
-    let after = c .before .before .before .before .before in
-    let a = after .advance .result in
-    rw (c .octet-heard .ensures, ← changed-store (after .before .before .loop .msg) (a .act) (a .ear .past) (c .before .if3 .taken)) (quiet after (omega (arith, c .before .before .if2 .left, c .before .before .before .if1 .left)))
 
 change-requires : tie.Need-change-requires Inv-loop μ-loop
 change-requires c κs = search needs
@@ -117,7 +118,7 @@ loop-less-2 c = let some = taken (c .before .before .before .before .before) in 
 loop-again-2 : tie.Need-loop-again-2 Inv-loop μ-loop
 loop-again-2 c =
     let after = c .before .before .before .before .before in
-    rw (c .change .ensures) (quiet after (omega (arith, c .before .before .if2 .left, c .before .before .before .if1 .left)))
+    rw (c .change .ensures) (quiet after (omega (arith, c .before .if3 .left, c .before .before .if2 .left)))
 
 returns-3 : tie.Need-returns-3 Inv-loop μ-loop
 returns-3 c =
@@ -133,6 +134,12 @@ run-spec =
     μ-loop
     loop-holds
     advance-requires
+    cast-at
+    octet-heard-requires
+    element-write-msg
+    add-msg
+    loop-less
+    loop-again
     act-on-requires
     listener-of-requires
     report-of-requires
@@ -141,12 +148,6 @@ run-spec =
     listener-of-requires-2
     tell-alone-requires
     returns-2
-    cast-at
-    octet-heard-requires
-    element-write-msg
-    add-msg
-    loop-less
-    loop-again
     change-requires
     loop-less-2
     loop-again-2

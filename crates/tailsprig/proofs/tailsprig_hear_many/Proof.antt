@@ -3,7 +3,6 @@
 -- Assumes nothing.
 use mathlib.Core.Path.{ap, _∙_}
 use Rattle.codes.specs.Hearing.{toldCode}
-use Rattle.codes.proofs.Codes.{read-answer}
 use borrow.Author.Needs.{needs}
 use Rattle.tailsprig.proofs.tailsprig_hear_many.Statement.{statement}
 use Rattle.tailsprig.proofs.tailsprig_hear_many.Tie as tie
@@ -11,13 +10,14 @@ use Rattle.tailsprig.proofs.tailsprig_hear_many.Tie as tie
 hear-many-requires : tie.Need-hear-many-requires
 hear-many-requires c κs = search needs
 
-heard-code-requires : tie.Need-heard-code-requires
-heard-code-requires c κs = search needs
+ran-of-requires : tie.Need-ran-of-requires
+ran-of-requires c κs = search needs
 
 returns : tie.Need-returns
 returns c =
-    let many = c .before .before .hear-many .ensures in
-    record { answer = read-answer (c .heard-code .result) (c .heard-code .ok) ∙ c .heard-code .ensures ∙ ap toldCode (many .report); rec = many .rec; taken = many .taken }
+    let many = c .before .hear-many .ensures in
+    let ran = c .ran-of .ensures in
+    record { answer = ran .answer ∙ ap toldCode (many .report); rec = ran .rec ∙ many .rec; taken = ran .taken ∙ many .taken }
 
 pub tailsprig-hear-many-spec : {M : Type 1} → statement M
-tailsprig-hear-many-spec = tie.close (tie.spec hear-many-requires heard-code-requires returns)
+tailsprig-hear-many-spec = tie.close (tie.spec hear-many-requires ran-of-requires returns)
