@@ -4,7 +4,7 @@
  *     Rules for every call            what is promised, and what a host has to keep to
  *     Numbers with names              refusals, kinds, functions, items, PCM, access, tags
  *     Writing                         octets to bits
- *     Listening                       bits to messages
+ *     Listening                       bits to messages, and where each began
  *     Menus                           what a menu says
  *     Makers' own fields              what a maker put into a CM, and its blocks
  *     Records, the choice             what an end can do and the menus that say it, what both ends go on with
@@ -45,6 +45,8 @@ extern "C" {
  * another second one, have to be built anew; a shared library of another such number is not found when they start.
  * With another second number a call may answer otherwise than before; what a host then has to change:
  *
+ *   0.6.0  Nothing. tailsprig_last_span is new and says where a reported message began; all else is as it was. A
+ *          program is built anew, since the shared library has another name, and its source can stay.
  *   0.5.0  In CALLING the library gives out the bits to send, CI on and off ('CI' in Sessions). A host asks for them by
  *          tailsprig_draw, 300 a second, and is silent where TAILSPRIG_SILENCE comes; one that never asks stays in
  *          CALLING, whatever tone comes, but for sigA. So both starts of a caller take the call function, how many CI
@@ -63,9 +65,9 @@ extern "C" {
  *          that long, as textphones, calls tailsprig_start_caller with TAILSPRIG_TE_TEXTPHONE in its place. A host
  *          that gives Te has nothing to change.
  */
-#define TAILSPRIG_VERSION "0.5.0"
+#define TAILSPRIG_VERSION "0.6.0"
 #define TAILSPRIG_VERSION_MAJOR 0
-#define TAILSPRIG_VERSION_MINOR 5
+#define TAILSPRIG_VERSION_MINOR 6
 #define TAILSPRIG_VERSION_PATCH 0
 
 /* ---- Numbers with names ---- */
@@ -253,7 +255,8 @@ struct tailsprig_listener tailsprig_fresh(void);
 /*
  * Hears one bit and answers a code of tailsprig_heard or a refusal. After 1, 2 or 3 the message is rec->msg: its octets
  * are rec->msg.octets[0 .. rec->msg.len - 1], perhaps none. They are as they came: neither the first octet nor the
- * categories are tested. They stay readable until the next sync is accepted, over refusals and CJ as well.
+ * categories are tested. They stay readable until the next sync is accepted, over refusals and CJ as well. Where the
+ * message began on the line, tailsprig_last_span says.
  *
  * Refusals, in this order:
  *   10  a number of the record is outside its range; the record keeps its value
@@ -294,6 +297,34 @@ struct tailsprig_ran {
  * The loop ends: a record from tailsprig_fresh is never refused with 10, so each call takes at least one byte.
  */
 struct tailsprig_ran tailsprig_hear_many(struct tailsprig_listener rec, const uint8_t *bits, size_t len);
+
+/*
+ * The span of the message reported last on this line: the number of bits from its sync's first bit to the bit reporting
+ * it, both counted. These are ten bits of sync, ten for each octet, and the ten 1s that end the message. So the answer
+ * is 20 + 10 * octets, 20 to TAILSPRIG_MOST_BITS; for a CI of one octet it is 30. It is 0 where no message was reported
+ * yet.
+ *
+ * That says where a message began. With the bits of a line numbered from 0, where bit p reports a message its sync's
+ * first bit is bit p - span + 1, and the ten bits before that one are 1s. Bytes that are neither 0 nor 1 are no bits:
+ * they are not counted, neither in the span nor in p.
+ *
+ * A host asks right after a report of 1, 2 or 3, with the record that it has: *rec behind tailsprig_hear, ran.rec
+ * behind tailsprig_hear_many. In the loop above, with a count `heard` that the host keeps of the bits of the line:
+ *
+ *         heard += ran.taken;
+ *         if (ran.code == -TAILSPRIG_NOT_A_BIT)
+ *             heard--;
+ *         if (ran.code >= TAILSPRIG_HEARD_CI && ran.code <= TAILSPRIG_HEARD_AGREED)
+ *             on_message_from(heard - (size_t)tailsprig_last_span(rec));      the number of the sync's first bit
+ *
+ * Asked later, the answer is the same until the next message is reported. CJ and refusals have no span, and change
+ * nothing of it.
+ *
+ * A struct tailsprig_span, further below, is something else: a part of octets, by its place and size.
+ *
+ * Refusal 10: a number of the record is outside its range.
+ */
+int32_t tailsprig_last_span(struct tailsprig_listener rec);
 
 /*
  * ---- Menus ----
@@ -376,7 +407,10 @@ struct tailsprig_menu_read tailsprig_read(const uint8_t *octets, size_t octets_l
  */
 int32_t tailsprig_fields(const uint8_t *octets, size_t octets_len, uint8_t *out, size_t out_len);
 
-/* A part of lent octets: octets[place .. place + size - 1], or nothing where the size is 0. */
+/*
+ * A part of lent octets: octets[place .. place + size - 1], or nothing where the size is 0. The span of a message is
+ * something else, a count of bits (tailsprig_last_span).
+ */
 struct tailsprig_span {
     size_t place;
     size_t size;

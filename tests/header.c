@@ -236,7 +236,7 @@ NUMBER(TAILSPRIG_ENDED, 16);
 NUMBER(TAILSPRIG_GO_ON, 32);
 
 NUMBER(TAILSPRIG_VERSION_MAJOR, 0);
-NUMBER(TAILSPRIG_VERSION_MINOR, 5);
+NUMBER(TAILSPRIG_VERSION_MINOR, 6);
 NUMBER(TAILSPRIG_VERSION_PATCH, 0);
 
 #endif
@@ -407,6 +407,57 @@ static void listening(void)
     rec = tailsprig_fresh();
     CHECK(hear(&rec, CM_BITS) == TAILSPRIG_HEARD_NOTHING);
     CHECK(hear(&rec, "1111111111") == TAILSPRIG_HEARD_MENU);
+}
+
+static void spans(void)
+{
+    static const size_t began[] = {10, 40, 110};
+    struct tailsprig_listener rec = tailsprig_fresh();
+    struct tailsprig_ran ran;
+    uint8_t bits[256];
+    size_t len, heard = 0, messages = 0;
+
+    /* None before the bit that reports a message; then it stays until the next is reported, over CJ and refusals. */
+    CHECK(tailsprig_last_span(rec) == 0);
+    CHECK(hear(&rec, CI_BITS "111111111") == TAILSPRIG_HEARD_NOTHING && tailsprig_last_span(rec) == 0);
+    CHECK(hear(&rec, "1") == TAILSPRIG_HEARD_CI && tailsprig_last_span(rec) == 30);
+    CHECK(hear(&rec, CM_BITS) == TAILSPRIG_HEARD_NOTHING && tailsprig_last_span(rec) == 30);
+    CHECK(hear(&rec, CJ_BITS) == TAILSPRIG_HEARD_CJ && tailsprig_last_span(rec) == 30);
+    CHECK(hear(&rec, "2") == -TAILSPRIG_NOT_A_BIT && tailsprig_last_span(rec) == 30);
+    CHECK(hear(&rec, CM_BITS "1111111111") == TAILSPRIG_HEARD_MENU && tailsprig_last_span(rec) == 70);
+    CHECK(hear(&rec, CM_BITS "1111111111") == TAILSPRIG_HEARD_AGREED && tailsprig_last_span(rec) == 70);
+    CHECK(hear(&rec, CJ_BITS) == TAILSPRIG_HEARD_CJ && tailsprig_last_span(rec) == 70);
+    CHECK(hear(&rec, "1111111111" "0000001111" "1111111111") == TAILSPRIG_HEARD_MENU && tailsprig_last_span(rec) == 20);
+
+    /* The loop of the manual, over a CI with a byte in it that is no bit, and CM twice. */
+    len = bits_of(bits, "1111111111" "0000000" "2" "001" "0100000111" CM_BITS CM_BITS "1111111111");
+    rec = tailsprig_fresh();
+    for (size_t at = 0; at < len; at += ran.taken) {
+        ran = tailsprig_hear_many(rec, bits + at, len - at);
+        rec = ran.rec;
+        heard += ran.taken;
+        if (ran.code == -TAILSPRIG_NOT_A_BIT)
+            heard--;
+        if (ran.code >= TAILSPRIG_HEARD_CI && ran.code <= TAILSPRIG_HEARD_AGREED) {
+            CHECK(messages < 3 && heard - (size_t)tailsprig_last_span(rec) == began[messages]);
+            messages++;
+        }
+    }
+    CHECK(messages == 3 && heard == 180);
+
+    /* By the numbers of a record: the longest message, and none where the kind is that of none. */
+    rec.last.len = TAILSPRIG_MOST_OCTETS;
+    CHECK(tailsprig_last_span(rec) == TAILSPRIG_MOST_BITS);
+    rec.last.kind = 0;
+    CHECK(tailsprig_last_span(rec) == 0);
+    rec.last.kind = 3;
+    CHECK(tailsprig_last_span(rec) == -TAILSPRIG_BAD_RECORD);
+    rec = tailsprig_fresh();
+    rec.ear.heard = 31;
+    CHECK(tailsprig_last_span(rec) == -TAILSPRIG_BAD_RECORD);
+    rec = tailsprig_fresh();
+    rec.msg.len = 65;
+    CHECK(tailsprig_last_span(rec) == -TAILSPRIG_BAD_RECORD);
 }
 
 /* The functions by their first octets, and the items by where V.8 has them, in Tables 3 and 4. */
@@ -1041,6 +1092,7 @@ int main(void)
 {
     writing();
     listening();
+    spans();
     menus();
     blocks();
     fields();

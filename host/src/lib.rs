@@ -163,6 +163,7 @@ pub mod c {
         pub fn tailsprig_fresh() -> Listener;
         pub fn tailsprig_hear(rec: *mut Listener, bit: u8) -> i32;
         pub fn tailsprig_hear_many(rec: Listener, bits: *const u8, len: usize) -> Ran;
+        pub fn tailsprig_last_span(rec: Listener) -> i32;
         pub fn tailsprig_find(octets: *const u8, octets_len: usize, tag: u8) -> i32;
         pub fn tailsprig_part(octets: *const u8, octets_len: usize, place: usize) -> usize;
         pub fn tailsprig_read(octets: *const u8, octets_len: usize) -> MenuRead;

@@ -230,7 +230,7 @@ fn as_c_passes((name, ty): &Named) -> Vec<Named> {
 fn the_functions_are_those_of_the_sources() {
     let header = functions_of_the_header();
     let declared = functions_of(&source("tailsprig"));
-    assert_eq!(declared.len(), 21, "{:?}", declared.keys());
+    assert_eq!(declared.len(), 22, "{:?}", declared.keys());
     assert_eq!(header, functions_of(read("host/src/lib.rs").split("extern \"C\"").nth(1).expect("declarations")));
     assert!(header.keys().eq(declared.keys()), "{:?}", header.keys());
     for (name, (parameters, answer)) in &declared {
