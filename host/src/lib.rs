@@ -59,7 +59,7 @@ pub mod c {
         pub code: i32,
     }
 
-    /// A part of lent octets.
+    /// A part of lent octets; not the span of a message, which is a count of bits.
     #[derive(Clone, Copy, Debug, Default, PartialEq, Eq)]
     #[repr(C)]
     pub struct Span {
@@ -235,26 +235,23 @@ pub fn write_cj(out: &mut [u8]) -> Result<usize, Refusal> {
     count(unsafe { c::tailsprig_write_cj(out.as_mut_ptr(), out.len()) })
 }
 
-/// What hearing a bit reports.
+/// What hearing a bit reports. A message has a span: so many bits from the first of its sync to the one that reports it, both
+/// counted.
 #[derive(Clone, Copy, Debug, PartialEq, Eq)]
 pub enum Report {
     Nothing,
-    Ci,
-    Menu { agreed: bool },
+    Ci { span: u16 },
+    Menu { agreed: bool, span: u16 },
     Cj,
     Refused(Refusal),
 }
 
 impl Report {
-    /// The report that a code of the header stands for.
-    fn of(code: i32) -> Self {
-        match code {
-            0 => Report::Nothing,
-            1 => Report::Ci,
-            2 => Report::Menu { agreed: false },
-            3 => Report::Menu { agreed: true },
-            4 => Report::Cj,
-            _ => Report::Refused(Refusal(code.unsigned_abs() as u8)),
+    /// The span, where a message is reported.
+    pub fn span(self) -> Option<u16> {
+        match self {
+            Report::Ci { span } | Report::Menu { span, .. } => Some(span),
+            Report::Nothing | Report::Cj | Report::Refused(_) => None,
         }
     }
 }
@@ -273,7 +270,8 @@ impl Listener {
     /// Hears one bit.
     pub fn hear(&mut self, bit: u8) -> Report {
         // SAFETY: the record is lent for the call alone.
-        Report::of(unsafe { c::tailsprig_hear(&mut self.0, bit) })
+        let code = unsafe { c::tailsprig_hear(&mut self.0, bit) };
+        self.report(code)
     }
 
     /// Hears bytes up to the first that reports something, and says how many that are; all of them where none does.
@@ -281,7 +279,30 @@ impl Listener {
         // SAFETY: the slice is lent for the call alone, with its length; the record goes and comes back by value.
         let ran = unsafe { c::tailsprig_hear_many(self.0, bits.as_ptr(), bits.len()) };
         self.0 = ran.rec;
-        (ran.taken, Report::of(ran.code))
+        (ran.taken, self.report(ran.code))
+    }
+
+    /// The report that a code of the header stands for, with the span that the record then tells.
+    fn report(&self, code: i32) -> Report {
+        // Where a message was reported just now, there is one.
+        let span = || self.last_span().unwrap_or(0);
+        match code {
+            0 => Report::Nothing,
+            1 => Report::Ci { span: span() },
+            2 => Report::Menu { agreed: false, span: span() },
+            3 => Report::Menu { agreed: true, span: span() },
+            4 => Report::Cj,
+            _ => Report::Refused(Refusal(code.unsigned_abs() as u8)),
+        }
+    }
+
+    /// The span of the message reported last, until the next one is reported; `None` before the first.
+    pub fn last_span(&self) -> Option<u16> {
+        // SAFETY: the record goes by value.
+        match unsafe { c::tailsprig_last_span(self.0) } {
+            0 => None,
+            span => Some(span as u16),
+        }
     }
 
     /// The octets stored last. Right after a CI or a menu was reported they are that message's.

@@ -3,8 +3,8 @@
 //! Where the pages leave room it follows `docs/DECISIONS.md`, as the library does: a comparison of the two tells whether both keep to
 //! the pages as they are read there, and not whether that reading is right.
 //!
-//! The modules follow the sections of document 01; `fields` is request 02, `cadence` request 04. What a comment has in double quotes is the text of a page,
-//! of document 01 where no request is named.
+//! The modules follow the sections of document 01; `fields` is request 02, `cadence` request 04, and the span in `listening` request 05. What a comment has
+//! in double quotes is the text of a page, of document 01 where no request is named.
 
 mod bits;
 mod cadence;
@@ -195,11 +195,35 @@ pub enum Mistake {
     FunctionWith16,
     /// At a start 16 comes before 10.
     CadenceFirst,
+    /// A span begins behind the sync.
+    SpanBehindSync,
+    /// A span begins with the ten 1s before the sync.
+    SpanFromOnes,
+    /// A span ends before the ten 1s that end a message.
+    SpanWithoutOnes,
+    /// Of the first and the last bit of a span only one is counted.
+    SpanBothNotCounted,
+    /// Bytes that are no bits are counted in a span.
+    SpanCountsNoBits,
+    /// Where the 0 that cuts a sequence short starts a sync, a span begins with the sync before.
+    SpanFromSyncCutShort,
+    /// A report carries the span of the message before.
+    SpanOfMessageBefore,
+    /// An agreed menu begins with the first of its two copies.
+    SpanOfBothCopies,
+    /// A CI has no span of its own: asked later, that of the menu before it is told.
+    SpanOfMenusAlone,
+    /// Before the first message a span is told: that of a message without octets.
+    SpanOfNothing,
+    /// Asked behind CJ, no span is told.
+    SpanUntilCj,
+    /// Asked behind the next accepted sync, no span is told.
+    SpanUntilSync,
 }
 
 impl Mistake {
     /// Every mistake with the name that it is asked for by.
-    pub const ALL: [(&str, Mistake); 73] = [
+    pub const ALL: [(&str, Mistake); 85] = [
         ("room-for-one", Mistake::RoomForOne),
         ("nine-ones", Mistake::NineOnes),
         ("octet-55", Mistake::Octet55),
@@ -273,5 +297,17 @@ impl Mistake {
         ("function-7", Mistake::Function7),
         ("function-with-16", Mistake::FunctionWith16),
         ("cadence-first", Mistake::CadenceFirst),
+        ("span-behind-sync", Mistake::SpanBehindSync),
+        ("span-from-ones", Mistake::SpanFromOnes),
+        ("span-without-ones", Mistake::SpanWithoutOnes),
+        ("span-both-not-counted", Mistake::SpanBothNotCounted),
+        ("span-counts-no-bits", Mistake::SpanCountsNoBits),
+        ("span-from-sync-cut-short", Mistake::SpanFromSyncCutShort),
+        ("span-of-message-before", Mistake::SpanOfMessageBefore),
+        ("span-of-both-copies", Mistake::SpanOfBothCopies),
+        ("span-of-menus-alone", Mistake::SpanOfMenusAlone),
+        ("span-of-nothing", Mistake::SpanOfNothing),
+        ("span-until-cj", Mistake::SpanUntilCj),
+        ("span-until-sync", Mistake::SpanUntilSync),
     ];
 }

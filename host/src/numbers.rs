@@ -23,15 +23,39 @@ pub fn refused(refusal: Refusal) -> i32 {
     -i32::from(refusal.0)
 }
 
-/// What a bit reports.
+/// What a bit reports. The span of a message is no part of that number.
 pub fn report(answer: Result<Report, Refusal>) -> i32 {
     match answer {
         Ok(Report::Nothing) => 0,
-        Ok(Report::Ci) => 1,
-        Ok(Report::Menu { agreed: false }) => 2,
-        Ok(Report::Menu { agreed: true }) => 3,
+        Ok(Report::Ci { .. }) => 1,
+        Ok(Report::Menu { agreed: false, .. }) => 2,
+        Ok(Report::Menu { agreed: true, .. }) => 3,
         Ok(Report::Cj) => 4,
         Err(refusal) => refused(refusal),
+    }
+}
+
+/// The span of the message reported last, or 0 where none was.
+pub fn span(span: Option<usize>) -> i32 {
+    span.map_or(0, |bits| bits as i32)
+}
+
+/// The span of a message by its numbers, for records that no bits lead to: nothing was heard there that could be counted. The sync, each
+/// octet and the 1s behind them are ten bits each; 0 is the kind of no message.
+pub fn span_of(message: &c::Message) -> i32 {
+    match message.kind {
+        0 => 0,
+        _ => 20 + 10 * i32::from(message.len),
+    }
+}
+
+/// The span of the message reported last by the numbers of a record, where each is in its range of `docs/RANGES.md`.
+pub fn last_span_of(record: &c::Listener) -> i32 {
+    let fits = |message: &c::Message| message.kind <= 2 && message.len <= 64;
+    if record.ear.heard <= 30 && record.ear.place <= 28 && fits(&record.msg) && fits(&record.last) {
+        span_of(&record.last)
+    } else {
+        -10
     }
 }
 

@@ -108,17 +108,24 @@ pub fn show_refusal(refusal: Refusal) -> String {
     format!("R{}", refusal.0)
 }
 
-/// A line's bytes: `0` and `1` are bits, any other character is a byte that is no bit.
+/// A line's bytes: `0` and `1` are bits, any other character is a byte that is no bit; `-` alone is the empty line.
 pub fn line(text: &str) -> Vec<u8> {
+    if text == "-" {
+        return Vec::new();
+    }
     text.bytes().map(|character| character ^ b'0').collect()
 }
 
 /// A line's bytes as they are read, with `x` for each that is no bit.
 pub fn show_line(line: &[u8]) -> String {
+    if line.is_empty() {
+        return "-".to_string();
+    }
     line.iter().map(|byte| if *byte <= 1 { char::from(b'0' + byte) } else { 'x' }).collect()
 }
 
-/// What was reported on a line so far: `N:WHAT:OCTETS` each, with `:agreed` behind an agreed menu.
+/// What was reported on a line so far: `N:WHAT:OCTETS:SPAN` each, with `:agreed` behind an agreed menu. Without a message octets and span
+/// are `-`.
 #[derive(Default)]
 pub struct Reports {
     heard: usize,
@@ -131,12 +138,13 @@ impl Reports {
         self.heard += taken;
         let (what, octets, agreed) = match report {
             Report::Nothing => return,
-            Report::Ci => ("CI".to_string(), octets, ""),
-            Report::Menu { agreed } => ("MENU".to_string(), octets, if agreed { ":agreed" } else { "" }),
+            Report::Ci { .. } => ("CI".to_string(), octets, ""),
+            Report::Menu { agreed, .. } => ("MENU".to_string(), octets, if agreed { ":agreed" } else { "" }),
             Report::Cj => ("CJ".to_string(), &[][..], ""),
             Report::Refused(refusal) => (show_refusal(refusal), &[][..], ""),
         };
-        self.shown.push(format!("{}:{what}:{}{agreed}", self.heard - 1, show_joined(octets)));
+        let span = report.span().map_or("-".to_string(), |span| span.to_string());
+        self.shown.push(format!("{}:{what}:{}:{span}{agreed}", self.heard - 1, show_joined(octets)));
         // A byte that is no bit was taken and not heard.
         self.heard -= usize::from(report == Report::Refused(Refusal(1)));
     }

@@ -7,12 +7,13 @@ fn differ(words: &[&str]) -> Output {
     Command::new(env!("CARGO_BIN_EXE_differ")).args(words).output().expect("differ can be run")
 }
 
-/// Every call, and every answer that the header names for it; a count or a place is told as 0, a block as 1 and none as 0.
-const ANSWERS: [(&str, &str); 20] = [
+/// Every call, and every answer that the header names for it; a count or a place is told as 0, a block or a span as 1 and none as 0.
+const ANSWERS: [(&str, &str); 21] = [
     ("write", "-12 -10 -6 -5 -4 -3 0"),
     ("write_cj", "-6 0"),
     ("fresh and hear", "-13 -10 -4 -3 -2 -1 0 1 2 3 4"),
     ("hear_many", "-13 -10 -4 -3 -2 -1 0 1 2 3 4"),
+    ("last_span", "-10 0 1"),
     ("find", "-5 -4 -3 0 64"),
     ("part", "0"),
     ("read", "-5 -4 -3 0"),

@@ -204,9 +204,10 @@ fn reports(sequences: &[Vec<u8>]) -> Vec<Report> {
 #[test]
 fn a_menu_is_not_agreed_with_a_ci_of_the_same_octets() {
     let (ci, menu) = (sequence(CI, &[0xc1]), sequence(MENU, &[0xc1]));
-    let [agreed, not] = [true, false].map(|agreed| Report::Menu { agreed });
-    assert_eq!(reports(&[ci.clone(), menu.clone(), menu.clone()]), [Report::Ci, not, agreed]);
-    assert_eq!(reports(&[menu.clone(), ci, menu]), [not, Report::Ci, not]);
+    let told = Report::Ci { span: 30 };
+    let [agreed, not] = [true, false].map(|agreed| Report::Menu { agreed, span: 30 });
+    assert_eq!(reports(&[ci.clone(), menu.clone(), menu.clone()]), [told, not, agreed]);
+    assert_eq!(reports(&[menu.clone(), ci, menu]), [not, told, not]);
 }
 
 /// A call asks for V.34 among others, the next on the same line does not, and one bit of its first copy is damaged: it then is the menu
@@ -224,7 +225,7 @@ fn a_record_kept_over_calls_agrees_at_one_damaged_copy_and_a_fresh_one_does_not(
         let said: Vec<Report> = line.map(|&bit| listener.hear(bit)).filter(|report| *report != Report::Nothing).collect();
         (said, listener.octets().to_vec())
     };
-    let [agreed, not] = [true, false].map(|agreed| Report::Menu { agreed });
+    let [agreed, not] = [true, false].map(|agreed| Report::Menu { agreed, span: 70 });
 
     let mut kept = Listener::fresh();
     assert_eq!(call(&mut kept, &[&before, &before]).0, [not, agreed]);
@@ -241,7 +242,7 @@ fn a_record_kept_over_calls_agrees_at_one_damaged_copy_and_a_fresh_one_does_not(
 fn a_65th_octet_is_refused_with_3_before_4() {
     let mut octets = [0x10; 65];
     octets[0] = 0xc1;
-    assert_eq!(reports(&[sequence(MENU, &octets[..64])]), [Report::Menu { agreed: false }]);
+    assert_eq!(reports(&[sequence(MENU, &octets[..64])]), [Report::Menu { agreed: false, span: 660 }]);
     assert_eq!(reports(&[sequence(MENU, &octets)]), [Report::Refused(Refusal(4))]);
     octets[64] = 0x18;
     assert_eq!(reports(&[sequence(MENU, &octets)]), [Report::Refused(Refusal(3))]);
@@ -265,6 +266,15 @@ fn many_bits_at_once_are_single_bits_from_every_record() {
     }
 }
 
+/// A report with 0 for a span, to tell what came at all.
+fn without_span(report: Report) -> Report {
+    match report {
+        Report::Ci { .. } => Report::Ci { span: 0 },
+        Report::Menu { agreed, .. } => Report::Menu { agreed, span: 0 },
+        other => other,
+    }
+}
+
 #[test]
 fn every_line_is_heard_as_plain_rust_hears_it() {
     let mut random = Random(2);
@@ -273,6 +283,7 @@ fn every_line_is_heard_as_plain_rust_hears_it() {
         let line = random.line();
         let (mut ours, mut rust) = (Listener::fresh(), plain::Listener::fresh());
         let (mut ours_said, mut rust_said) = (text::Reports::default(), text::Reports::default());
+        let mut span = None;
         let mut at = 0;
         while at < line.len() {
             let piece = &line[at..line.len().min(at + 1 + random.below(100))];
@@ -282,8 +293,10 @@ fn every_line_is_heard_as_plain_rust_hears_it() {
             for &bit in &piece[..taken] {
                 let report = rust.hear(bit);
                 rust_said.add(1, report, rust.octets());
+                span = report.span().or(span);
             }
-            assert_eq!(ours.octets(), rust.octets(), "{line:?}");
+            assert_eq!((ours.octets(), ours.last_span()), (rust.octets(), span), "{line:?}");
+            let report = without_span(report);
             if !seen.contains(&report) {
                 seen.push(report);
             }
@@ -292,9 +305,9 @@ fn every_line_is_heard_as_plain_rust_hears_it() {
         assert_eq!(ours_said.show(), rust_said.show(), "{line:?}");
     }
     // The lines would show little if one of the reports never came.
-    let menus = [true, false].map(|agreed| Report::Menu { agreed });
+    let menus = [true, false].map(|agreed| Report::Menu { agreed, span: 0 });
     let refused = [1, 2, 3, 4, 13].map(|number| Report::Refused(Refusal(number)));
-    for report in [Report::Nothing, Report::Ci, Report::Cj].iter().chain(&menus).chain(&refused) {
+    for report in [Report::Nothing, Report::Ci { span: 0 }, Report::Cj].iter().chain(&menus).chain(&refused) {
         assert!(seen.contains(report), "{report:?} never came");
     }
 }

@@ -67,11 +67,11 @@ fn the_model_hears_as_the_vectors_say() {
             let joined = || text::show_joined(line.octets());
             reports.push(match report {
                 Ok(Report::Nothing) => continue,
-                Ok(Report::Ci) => format!("{before}:CI:{}", joined()),
-                Ok(Report::Menu { agreed: false }) => format!("{before}:MENU:{}", joined()),
-                Ok(Report::Menu { agreed: true }) => format!("{before}:MENU:{}:agreed", joined()),
-                Ok(Report::Cj) => format!("{before}:CJ:-"),
-                Err(Refusal(number)) => format!("{before}:R{number}:-"),
+                Ok(Report::Ci { span }) => format!("{before}:CI:{}:{span}", joined()),
+                Ok(Report::Menu { agreed: false, span }) => format!("{before}:MENU:{}:{span}", joined()),
+                Ok(Report::Menu { agreed: true, span }) => format!("{before}:MENU:{}:{span}:agreed", joined()),
+                Ok(Report::Cj) => format!("{before}:CJ:-:-"),
+                Err(Refusal(number)) => format!("{before}:R{number}:-:-"),
             });
         }
         if reports.is_empty() {

@@ -1,4 +1,4 @@
-//! "Listening".
+//! "Listening", and where a message began, which is request 05.
 use super::{
     bits::{is_bad, CJ, MOST_OCTETS},
     Kind, Mistake, Model, Refusal,
@@ -11,10 +11,14 @@ pub struct Listener {
     pub heard: Vec<u8>,
     /// What the next bit belongs to.
     pub place: Place,
+    /// Where in the bits heard the first bit of the sync stands that was started last.
+    pub sync: usize,
     /// The message of the last accepted sync: "stored octets stay readable until the next accepted sync".
     pub stored: Option<Message>,
     /// "the message reported just before".
     pub reported: Option<Message>,
+    /// Its span.
+    pub span: Option<usize>,
 }
 
 #[derive(Clone, Debug, PartialEq, Eq)]
@@ -34,18 +38,19 @@ pub enum Place {
     Ending(usize),
 }
 
+/// Request 05: "Each reported message also carries the number of bits from its sync's first bit to the bit reporting it, both counted."
 #[derive(Clone, Copy, Debug, PartialEq, Eq)]
 pub enum Report {
     Nothing,
-    Ci,
-    Menu { agreed: bool },
+    Ci { span: usize },
+    Menu { agreed: bool, span: usize },
     Cj,
 }
 
 impl Listener {
     /// "In a fresh record nothing has been heard."
     pub fn fresh() -> Self {
-        Listener { heard: Vec::new(), place: Place::Hunting, stored: None, reported: None }
+        Listener { heard: Vec::new(), place: Place::Hunting, sync: 0, stored: None, reported: None, span: None }
     }
 
     /// The octets that are readable.
@@ -59,6 +64,10 @@ impl Model {
     pub fn hear(&self, line: &mut Listener, bit: u8) -> Result<Report, Refusal> {
         // 1: "bit not 0 or 1"; "the listening record keeps its value on 1".
         if bit > 1 {
+            if self.makes(Mistake::SpanCountsNoBits) {
+                // As if the sync had begun a bit sooner.
+                line.sync = line.sync.saturating_sub(1);
+            }
             return Err(Refusal(1));
         }
         // "A 0 whose ten preceding heard bits are all 1 starts a sync."
@@ -72,12 +81,16 @@ impl Model {
         // "CJ is reported whenever the last 30 heard bits are CJ, however they were framed." At the stop position it comes first
         // and stores nothing; while hunting its last bit starts nothing; no other place is left at its end.
         if line.heard.ends_with(&CJ) {
+            if self.makes(Mistake::SpanUntilCj) {
+                line.span = None;
+            }
             return Ok(Report::Cj);
         }
         match place {
             Place::Hunting => {
                 if starts_sync {
                     line.place = Place::Sync(vec![0]);
+                    line.sync = line.heard.len() - 1;
                 }
                 Ok(Report::Nothing)
             }
@@ -90,6 +103,9 @@ impl Model {
                     // other sync is passed over and hunting resumes."
                     line.stored = Some(Message { kind, octets: Vec::new() });
                     line.place = Place::Octet(Vec::new());
+                    if self.makes(Mistake::SpanUntilSync) {
+                        line.span = None;
+                    }
                 }
                 Ok(Report::Nothing)
             }
@@ -118,6 +134,9 @@ impl Model {
                 // sync bits and stop bit included), it also starts a sync."
                 if starts_sync && !self.makes(Mistake::CutStartsNoSync) {
                     line.place = Place::Sync(vec![0]);
+                    if !self.makes(Mistake::SpanFromSyncCutShort) {
+                        line.sync = line.heard.len() - 1;
+                    }
                 }
                 Err(Refusal(13))
             }
@@ -155,9 +174,34 @@ impl Model {
         if !(kind == Kind::Ci && self.makes(Mistake::CiBetween)) {
             line.reported = line.stored.clone();
         }
+        let counted = self.counted(line);
+        let span = match line.span {
+            before if self.makes(Mistake::SpanOfMessageBefore) => before.unwrap_or(0),
+            Some(first) if agreed && self.makes(Mistake::SpanOfBothCopies) => first + counted,
+            _ => counted,
+        };
+        if !(kind == Kind::Ci && self.makes(Mistake::SpanOfMenusAlone)) {
+            line.span = Some(counted);
+        }
         match kind {
-            Kind::Ci => Report::Ci,
-            Kind::Menu => Report::Menu { agreed },
+            Kind::Ci => Report::Ci { span },
+            Kind::Menu => Report::Menu { agreed, span },
+        }
+    }
+
+    /// How many bits there are "from its sync's first bit to the bit reporting it, both counted". The latter was heard last.
+    fn counted(&self, line: &Listener) -> usize {
+        let one_if = |mistake| usize::from(self.makes(mistake));
+        let first = line.sync + 10 * one_if(Mistake::SpanBehindSync) - 10 * one_if(Mistake::SpanFromOnes);
+        let end = line.heard.len() - 10 * one_if(Mistake::SpanWithoutOnes) - one_if(Mistake::SpanBothNotCounted);
+        line.heard[first..end].len()
+    }
+
+    /// Asked behind any bit: the span of the message reported last, where one was.
+    pub fn last_span(&self, line: &Listener) -> Option<usize> {
+        match line.span {
+            None if self.makes(Mistake::SpanOfNothing) => Some(20),
+            span => span,
         }
     }
 }

@@ -201,12 +201,15 @@ impl Listener {
     /// The tenth 1 behind the last octet: the message is reported.
     fn ended(&mut self) -> Report {
         let (message, last) = (&self.message, &self.last);
+        // Ten bits each for the sync, every octet and the 1s behind them.
+        let span = 20 + 10 * message.len as u16;
         let report = if message.kind == Some(Kind::Ci) {
-            Report::Ci
+            Report::Ci { span }
         } else {
             // Reading refuses nothing but a first octet: what else it refuses is never stored.
             let reads = message.octets().first().is_some_and(|first| first & 0x1f == 1);
-            Report::Menu { agreed: reads && message.kind == last.kind && message.octets() == last.octets() }
+            let agreed = reads && message.kind == last.kind && message.octets() == last.octets();
+            Report::Menu { agreed, span }
         };
         self.last = self.message;
         self.place = Place::Hunting;
@@ -219,7 +222,7 @@ pub fn listing(mut input: impl Read, mut output: impl Write) -> io::Result<()> {
     const NOT_A_BIT: Report = Report::Refused(Refusal(1));
     let mut listener = Listener::fresh();
     let mut block = vec![0; 1 << 16];
-    let mut lines = b"bit\twhat\toctets\n".to_vec();
+    let mut lines = b"bit\twhat\toctets\tspan\n".to_vec();
     let mut heard = 0;
     loop {
         let size = input.read(&mut block)?;
@@ -248,12 +251,12 @@ pub fn listing(mut input: impl Read, mut output: impl Write) -> io::Result<()> {
 }
 
 fn write_line(lines: &mut Vec<u8>, before: usize, report: Report, octets: &[u8]) -> io::Result<()> {
-    let (what, octets) = match report {
+    let (what, span) = match report {
         Report::Nothing => return Ok(()),
-        Report::Refused(Refusal(number)) => return writeln!(lines, "{before}\tR{number}\t-"),
-        Report::Cj => ("CJ", &[][..]),
-        Report::Ci => ("CI", octets),
-        Report::Menu { .. } => ("MENU", octets),
+        Report::Refused(Refusal(number)) => return writeln!(lines, "{before}\tR{number}\t-\t-"),
+        Report::Cj => return writeln!(lines, "{before}\tCJ\t-\t-"),
+        Report::Ci { span } => ("CI", span),
+        Report::Menu { span, .. } => ("MENU", span),
     };
     write!(lines, "{before}\t{what}\t")?;
     if octets.is_empty() {
@@ -266,6 +269,5 @@ fn write_line(lines: &mut Vec<u8>, before: usize, report: Report, octets: &[u8])
         }
         lines.extend([digit(octet >> 4), digit(octet & 15)]);
     }
-    lines.push(b'\n');
-    Ok(())
+    writeln!(lines, "\t{span}")
 }

@@ -122,7 +122,7 @@ fn agreed_menus(name: &str, bits: &[u8]) -> usize {
     one_a_call(bits, |bit| {
         let report = ours.hear(bit);
         reports[0].add(1, report, ours.octets());
-        agreed += usize::from(report == Report::Menu { agreed: true });
+        agreed += usize::from(matches!(report, Report::Menu { agreed: true, .. }));
         let report = rust.hear(bit);
         reports[1].add(1, report, rust.octets());
         report

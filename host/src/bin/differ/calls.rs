@@ -3,7 +3,7 @@ use crate::{fields, inputs, random::Random};
 use std::{collections::BTreeSet, fmt::Debug};
 use tailsprig::{
     c,
-    model::{Cadence, Listener, Message, Model, Refusal, Session, State},
+    model::{Cadence, Listener, Message, Model, Refusal, Report, Session, State},
     numbers, text,
 };
 
@@ -15,7 +15,7 @@ pub struct Call {
 }
 
 /// Which answers came: refusals as their negative numbers, others as the header numbers them. Counts and places are all told as 0, as
-/// how large they are says little; a block is told as 1, and that there is none as 0.
+/// how large they are says little; a block or a span is told as 1, and that there is none as 0.
 pub type Answers = BTreeSet<i32>;
 
 /// An input for which the library and the model answer differently.
@@ -25,11 +25,12 @@ pub struct Difference {
     pub model: String,
 }
 
-pub const CALLS: [Call; 20] = [
+pub const CALLS: [Call; 21] = [
     Call { name: "write", share: 4, check: write },
     Call { name: "write_cj", share: 1, check: write_cj },
     Call { name: "fresh and hear", share: 7, check: hear },
     Call { name: "hear_many", share: 4, check: hear_many },
+    Call { name: "last_span", share: 4, check: last_span },
     Call { name: "find", share: 3, check: find },
     Call { name: "part", share: 3, check: part },
     Call { name: "read", share: 4, check: read },
@@ -163,8 +164,38 @@ fn ran(record: c::Listener, bits: &[u8]) -> c::Ran {
     unsafe { c::tailsprig_hear_many(record, bits.as_ptr(), bits.len()) }
 }
 
-/// Hears a line bit by bit, and compares each report and the whole record behind it. At one place a record out of its ranges is
-/// tried, and what has no meaning in the good one is written over.
+fn span_asked(record: c::Listener) -> i32 {
+    // SAFETY: the record goes by value.
+    unsafe { c::tailsprig_last_span(record) }
+}
+
+/// The span that a report carries, where it is one of a message, and the span of the message reported last. The library tells both by one
+/// call.
+#[derive(Debug, PartialEq)]
+struct Spans {
+    told: Option<i32>,
+    last: i32,
+}
+
+/// Compares the spans that are told behind a report.
+fn spans_compared(
+    record: c::Listener,
+    model: &Model,
+    listener: &Listener,
+    report: Result<Report, Refusal>,
+    input: impl FnOnce() -> String,
+) -> Result<(), Difference> {
+    let told = match report {
+        Ok(Report::Ci { span } | Report::Menu { span, .. }) => Some(span as i32),
+        Ok(Report::Nothing | Report::Cj) | Err(_) => None,
+    };
+    let asked = span_asked(record);
+    let library = Spans { told: told.map(|_| asked), last: asked };
+    compared(library, Spans { told, last: numbers::span(model.last_span(listener)) }, input)
+}
+
+/// Hears a line bit by bit, and compares each report with its span and the whole record behind it. At one place a record out of its
+/// ranges is tried, and what has no meaning in the good one is written over.
 fn hear(model: &Model, random: &mut Random, answers: &mut Answers) -> Result<(), Difference> {
     let line = inputs::line(random);
     let mut record = fresh();
@@ -182,19 +213,21 @@ fn hear(model: &Model, random: &mut Random, answers: &mut Answers) -> Result<(),
             // SAFETY: the record is lent for the call alone.
             let code = unsafe { c::tailsprig_hear(&mut behind, bit) };
             answers.insert(code);
-            compared((code, behind), (-10, outside), || format!("{outside:?} {bit}"))?;
+            compared((code, behind, span_asked(outside)), (-10, outside, -10), || format!("{outside:?} {bit}"))?;
             inputs::scribble(random, &mut record);
         }
         let before = record;
         // SAFETY: the record is lent for the call alone.
         let code = unsafe { c::tailsprig_hear(&mut record, bit) };
         answers.insert(code);
-        let answer = numbers::report(model.hear(&mut listener, bit));
+        let report = model.hear(&mut listener, bit);
+        let answer = numbers::report(report);
         // "The listening record keeps its value on 1", in what has no meaning too.
         let kept = answer != -1 || record == before;
         if code != answer || !kept || !numbers::same_listener(&record, &listener) {
             return Err(listening_differs(input(at), code, &record, answer, &listener));
         }
+        spans_compared(record, model, &listener, report, || input(at))?;
     }
     Ok(())
 }
@@ -217,7 +250,7 @@ fn listening_differs(input: String, code: i32, record: &c::Listener, answer: i32
     }
 }
 
-/// Hears a line in pieces, and compares how much of each was taken, what the last byte reported and the whole record.
+/// Hears a line in pieces, and compares how much of each was taken, what the last byte reported with its span, and the whole record.
 fn hear_many(model: &Model, random: &mut Random, answers: &mut Answers) -> Result<(), Difference> {
     let line = inputs::line(random);
     let mut record = fresh();
@@ -241,11 +274,12 @@ fn hear_many(model: &Model, random: &mut Random, answers: &mut Answers) -> Resul
             compared(ran, refused, || format!("{outside:?} {}", text::show_line(piece)))?;
             inputs::scribble(random, &mut record);
         }
-        let (mut taken, mut answer) = (0, 0);
-        while answer == 0 && taken < piece.len() {
-            answer = numbers::report(model.hear(&mut listener, piece[taken]));
+        let (mut taken, mut report) = (0, Ok(Report::Nothing));
+        while report == Ok(Report::Nothing) && taken < piece.len() {
+            report = model.hear(&mut listener, piece[taken]);
             taken += 1;
         }
+        let answer = numbers::report(report);
         let ran = ran(record, piece);
         answers.insert(ran.code);
         let input = || format!("{}, bytes {at} to {}", text::show_line(&line), at + piece.len());
@@ -253,10 +287,37 @@ fn hear_many(model: &Model, random: &mut Random, answers: &mut Answers) -> Resul
         if !numbers::same_listener(&ran.rec, &listener) {
             return Err(listening_differs(input(), ran.code, &ran.rec, answer, &listener));
         }
+        spans_compared(ran.rec, model, &listener, report, input)?;
         record = ran.rec;
         at += taken;
     }
     Ok(())
+}
+
+/// Asks any record for the span of the message reported last, and again behind bits that are heard with it, one by one and at once: where
+/// these report a message, its span is told. No bits lead to most of these records, so the model has nothing to count, and the numbers of
+/// the message say it.
+fn last_span(_: &Model, random: &mut Random, answers: &mut Answers) -> Result<(), Difference> {
+    let mut first = inputs::listener(random);
+    if random.one_in(4) {
+        inputs::damage_listener(random, &mut first);
+    }
+    let before = span_asked(first);
+    answers.insert(before.min(1));
+
+    let line = inputs::line(random);
+    let many = ran(first, &line);
+    let mut one = first;
+    for &bit in &line[..many.taken] {
+        // SAFETY: the record is lent for the call alone.
+        unsafe { c::tailsprig_hear(&mut one, bit) };
+    }
+
+    let by_numbers = numbers::last_span_of(&first);
+    let behind = if matches!(many.code, 1..=3) { numbers::span_of(&many.rec.msg) } else { by_numbers };
+    compared([before, span_asked(one), span_asked(many.rec)], [by_numbers, behind, behind], || {
+        format!("{first:?}, {}", text::show_line(&line))
+    })
 }
 
 fn find(model: &Model, random: &mut Random, answers: &mut Answers) -> Result<(), Difference> {

@@ -380,6 +380,18 @@ pub fn line(random: &mut Random) -> Vec<u8> {
     line
 }
 
+/// A listening record in its ranges, most of which no bits lead to.
+pub fn listener(random: &mut Random) -> c::Listener {
+    let mut message = || c::Message {
+        kind: random.byte() % 3,
+        len: if random.one_in(2) { random.of(&[0, 1, 5, 63, 64]) } else { random.below(65) as u8 },
+        octets: std::array::from_fn(|_| random.byte()),
+    };
+    let (msg, last) = (message(), message());
+    let ear = c::Ear { past: random.word(), heard: random.below(31) as u32, place: random.below(29) as u32 };
+    c::Listener { ear, msg, last }
+}
+
 /// Puts a number of a listening record outside its range.
 pub fn damage_listener(random: &mut Random, record: &mut c::Listener) {
     let above = |random: &mut Random, most: u32, all: u32| random.of(&[most + 1, most + 2, all / 2 + 1, all - 1, all]);
