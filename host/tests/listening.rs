@@ -1,4 +1,6 @@
-//! What the vectors of listening do not reach: numbers that only C can pass, and long lines beside plain Rust.
+//! What the vectors of listening do not reach: numbers that only C can pass, long lines beside plain Rust, and where on a line the spans
+//! of messages lead.
+use std::{collections::BTreeSet, fs, path::Path};
 use tailsprig::{c, plain, text, Listener, Refusal, Report};
 
 fn fresh() -> c::Listener {
@@ -16,6 +18,11 @@ fn hear(mut rec: c::Listener, bit: u8) -> (i32, c::Listener) {
 fn hear_many(rec: c::Listener, bits: &[u8]) -> c::Ran {
     // SAFETY: the slice is lent with its length.
     unsafe { c::tailsprig_hear_many(rec, bits.as_ptr(), bits.len()) }
+}
+
+fn last_span(rec: c::Listener) -> i32 {
+    // SAFETY: the record goes by value.
+    unsafe { c::tailsprig_last_span(rec) }
 }
 
 /// A record with a number of its own at every place, each the largest in its range.
@@ -66,6 +73,7 @@ fn a_field_out_of_range_is_refused_before_all_else_and_changes_nothing() {
                     let refused = c::Ran { rec, taken: 0, code: -10 };
                     assert_eq!(hear_many(rec, bits), refused, "{name} {number}, bits {bits:?}");
                 }
+                assert_eq!(last_span(rec), -10, "{name} {number}");
             }
         }
     }
@@ -82,6 +90,20 @@ fn the_last_number_in_each_range_is_not_refused() {
                 assert_ne!(hear_many(rec, &[bit]).code, -10, "{name} {}", first - 1);
             }
             assert_eq!(hear_many(rec, &[]), c::Ran { rec, taken: 0, code: 0 }, "{name} {}", first - 1);
+            assert_ne!(last_span(rec), -10, "{name} {}", first - 1);
+        }
+    }
+}
+
+/// The record has heard as much as one can, and holds another message: neither counts.
+#[test]
+fn a_span_goes_by_the_message_reported_last_alone() {
+    for len in 0..=64 {
+        for (kind, span) in [(0, 0), (1, 20 + 10 * i32::from(len)), (2, 20 + 10 * i32::from(len))] {
+            for good in [fresh(), largest()] {
+                let rec = c::Listener { last: c::Message { kind, len, ..good.last }, ..good };
+                assert_eq!(last_span(rec), span, "kind {kind}, {len} octets");
+            }
         }
     }
 }
@@ -192,6 +214,122 @@ fn sequence(sync: &[u8; 10], octets: &[u8]) -> Vec<u8> {
         bits.push(1);
     }
     bits
+}
+
+/// How a record hears the first of some bytes: alone, or with those behind it up to one that reports something.
+type Hearing = fn(c::Listener, &[u8]) -> c::Ran;
+
+const HEARINGS: [Hearing; 2] = [
+    |rec, bytes| {
+        let (code, rec) = hear(rec, bytes[0]);
+        c::Ran { rec, taken: 1, code }
+    },
+    hear_many,
+];
+
+/// What a fresh record answers on a line, one answer behind the other, and how many bits of the line were heard by then.
+fn answers(line: &[u8], hearing: Hearing) -> Vec<(usize, c::Ran)> {
+    let (mut rec, mut at, mut heard) = (fresh(), 0, 0);
+    let mut answers = Vec::new();
+    while at < line.len() {
+        let ran = hearing(rec, &line[at..]);
+        assert!(ran.taken > 0, "{} and nothing taken: {line:?}", ran.code);
+        rec = ran.rec;
+        at += ran.taken;
+        heard += ran.taken - usize::from(ran.code == -1);
+        answers.push((heard, ran));
+    }
+    answers
+}
+
+/// Whether a message was reported.
+fn is_message(ran: &c::Ran) -> bool {
+    (1..=3).contains(&ran.code)
+}
+
+fn octets(rec: &c::Listener) -> &[u8] {
+    &rec.msg.octets[..usize::from(rec.msg.len)]
+}
+
+/// The bits that another V.8 implementation sent.
+fn recordings() -> Vec<Vec<u8>> {
+    let folder = Path::new(env!("CARGO_MANIFEST_DIR")).join("../tests/recordings");
+    let entries = fs::read_dir(folder).expect("the recordings can be read");
+    let paths = entries.map(|entry| entry.expect("an entry can be read").path());
+    let recorded = paths.filter(|path| path.extension().is_some_and(|extension| extension == "bits"));
+    let texts = recorded.map(|path| fs::read_to_string(path).expect("the bits can be read"));
+    texts.map(|text| text::line(&text.replace('\n', ""))).collect()
+}
+
+/// Of the bits up to the one that reports a message, as many as its span says are its sync, its octets and ten 1s; and ten 1s stand before
+/// these.
+#[test]
+fn every_span_leads_to_the_first_bit_of_the_sync() {
+    let mut random = Random(3);
+    let mut lines = recordings();
+    assert!(lines.len() > 20, "{} recordings", lines.len());
+    lines.extend((0..20_000).map(|_| random.line()));
+    let mut seen = [0; 4];
+    for (line, hearing) in lines.iter().flat_map(|line| HEARINGS.map(|hearing| (line, hearing))) {
+        let bits: Vec<u8> = line.iter().copied().filter(|byte| *byte <= 1).collect();
+        for (heard, ran) in answers(line, hearing).into_iter().filter(|(_, ran)| is_message(ran)) {
+            let first = heard - last_span(ran.rec) as usize;
+            let sync = if ran.code == 1 { CI } else { MENU };
+            let sent = [sequence(sync, octets(&ran.rec)), vec![1; 10]].concat();
+            assert_eq!(bits.get(first - 10..first), Some(&sent[..10]), "before bit {first} of {line:?}");
+            assert_eq!(bits.get(first..heard), Some(&sent[10..]), "from bit {first} to {heard} of {line:?}");
+            seen[ran.code as usize] += 1;
+        }
+    }
+    assert!(seen[1..].iter().all(|count| *count > 10_000), "CI, menus, agreed menus: {:?}", &seen[1..]);
+}
+
+#[test]
+fn a_byte_that_is_no_bit_is_counted_in_no_span() {
+    let mut longest = [0x10; 64];
+    longest[0] = 0xc1;
+    let messages: [(_, &[u8], _, _); 4] = [
+        (CI, &[0xc1], 1, 30),
+        (MENU, &[], 2, 20),
+        (MENU, &[0xc1, 0x45, 0x13, 0x90, 0x2a], 2, 70),
+        (MENU, &longest, 2, 660),
+    ];
+    for (sync, message, code, span) in messages {
+        let bits = [sequence(sync, message), vec![1; 10]].concat();
+        for (at, hearing) in (0..=bits.len()).flat_map(|at| HEARINGS.map(|hearing| (at, hearing))) {
+            let line = [&bits[..at], &[2, 255, b'1'], &bits[at..]].concat();
+            let answers = answers(&line, hearing);
+            let told: Vec<_> = answers.iter().filter(|(_, ran)| is_message(ran)).collect();
+            let [(heard, ran)] = told[..] else { panic!("{} messages with such bytes behind {at} bits", told.len()) };
+            let found = (*heard, ran.code, octets(&ran.rec), last_span(ran.rec));
+            assert_eq!(found, (bits.len(), code, message, span), "such bytes behind {at} bits");
+        }
+    }
+}
+
+/// Bits, CJ and refusals between change nothing of it, nor does another message before its last bit.
+#[test]
+fn a_host_that_asks_later_is_told_the_same_span_until_the_next_message() {
+    assert_eq!(last_span(fresh()), 0);
+    let mut random = Random(4);
+    let mut seen = BTreeSet::new();
+    for _ in 0..20_000 {
+        let line = random.line();
+        for hearing in HEARINGS {
+            let mut span = 0;
+            for (heard, ran) in answers(&line, hearing) {
+                if is_message(&ran) {
+                    span = 20 + 10 * octets(&ran.rec).len() as i32;
+                }
+                assert_eq!(last_span(ran.rec), span, "behind {heard} bits of {line:?}");
+                // Where both messages of the record are as long, either would tell the same.
+                if is_message(&ran) || (span > 0 && ran.rec.msg.len != ran.rec.last.len) {
+                    seen.insert(ran.code);
+                }
+            }
+        }
+    }
+    assert_eq!(seen, BTreeSet::from([-13, -4, -3, -2, -1, 0, 1, 2, 3, 4]));
 }
 
 /// What a fresh listener reports on the sequences and ten 1s behind them.
