@@ -15,7 +15,7 @@ say() {
     local name=$1 input=$2
     shift 2
     printf '%b' "$input" >"$work/input"
-    { printf 'bit\twhat\toctets\n'; [ $# -eq 0 ] || printf '%b\n' "$@"; } >"$work/expected"
+    { printf 'bit\twhat\toctets\tspan\n'; [ $# -eq 0 ] || printf '%b\n' "$@"; } >"$work/expected"
     check "$program" "$name" "$work/input" "$work/expected" 1 7 13
 }
 
@@ -28,17 +28,18 @@ done
 ci=111111111100000000010100000111
 ones=1111111111
 cj=000000000100000000010000000001
-say 'the example of document 01' "$ci$ones$cj\n" '39\tCI\tC1' '69\tCJ\t-'
-say 'the example without its line feed' "$ci$ones$cj" '39\tCI\tC1' '69\tCJ\t-'
-say 'the example, a bit a line' "$(fold -w 1 <<<"$ci$ones$cj")" '39\tCI\tC1' '69\tCJ\t-'
+say 'the example of document 01' "$ci$ones$cj\n" '39\tCI\tC1\t30' '69\tCJ\t-\t-'
+say 'the example without its line feed' "$ci$ones$cj" '39\tCI\tC1\t30' '69\tCJ\t-\t-'
+say 'the example, a bit a line' "$(fold -w 1 <<<"$ci$ones$cj")" '39\tCI\tC1\t30' '69\tCJ\t-\t-'
 say 'no input' ''
 say 'line feeds alone' '\n\n\n'
 say 'bits that report nothing' '0101\n'
-say 'bytes that are no bits' 'x11111 11111\r\n' '0\tR1\t-' '5\tR1\t-' '10\tR1\t-'
-say 'the bytes 0, 255 and 2' '1\0\03772' '1\tR1\t-' '1\tR1\t-' '1\tR1\t-'
-say 'bytes that are no bits, in a message' "11111x11111${ci#"$ones"}${ones}y" '5\tR1\t-' '39\tCI\tC1' '40\tR1\t-'
-say 'a menu without octets' "${ones}0000001111$ones" '29\tMENU\t-'
-say 'a sequence cut short' "${ci}10${ones}" '31\tR13\t-'
+say 'bytes that are no bits' 'x11111 11111\r\n' '0\tR1\t-\t-' '5\tR1\t-\t-' '10\tR1\t-\t-'
+say 'the bytes 0, 255 and 2' '1\0\03772' '1\tR1\t-\t-' '1\tR1\t-\t-' '1\tR1\t-\t-'
+say 'bytes that are no bits, in a message' "11111x11111${ci#"$ones"}${ones}y" '5\tR1\t-\t-' '39\tCI\tC1\t30' '40\tR1\t-\t-'
+say 'bytes that are no bits, in a span' "${ones}0x000000001${ci: -10}1y111111111" '11\tR1\t-\t-' '31\tR1\t-\t-' '39\tCI\tC1\t30'
+say 'a menu without octets' "${ones}0000001111$ones" '29\tMENU\t-\t20'
+say 'a sequence cut short' "${ci}10${ones}" '31\tR13\t-\t-'
 
 # Copies of a menu, with a line feed after each 61 bits: a copy ends with the ten 1s of the next.
 copies=20000
@@ -47,8 +48,8 @@ awk -v copies="$copies" 'BEGIN {
     print "1111111111"
 }' | fold -w 61 >"$work/menus"
 awk -v copies="$copies" 'BEGIN {
-    print "bit\twhat\toctets"
-    for (i = 0; i < copies; i++) printf "%d\tMENU\tC1 45 13 90 2A\n", 79 + 70 * i
+    print "bit\twhat\toctets\tspan"
+    for (i = 0; i < copies; i++) printf "%d\tMENU\tC1 45 13 90 2A\t70\n", 79 + 70 * i
 }' >"$work/menus.listing"
 check "$program" "$copies menus" "$work/menus" "$work/menus.listing" 1 4095 65537 7 65535 131073
 
