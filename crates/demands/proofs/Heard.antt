@@ -23,7 +23,7 @@ use Rattle.stretches.proofs.Copies.{sent-read, copies-read}
 use Rattle.stretches.proofs.Heard.{are-bits, knows-heard, cj-told, cj-only}
 use Rattle.stretches.proofs.Led.{led-heard, reported-stands, ten-ends, ends-ten, ends-ones, octet-ends}
 use Rattle.stretches.proofs.Syncs.{other-sync, stays-readable, told-early}
-use Rattle.stretches.proofs.Parts.{parts-told, parts-end}
+use Rattle.stretches.proofs.Parts.{call-leaves, parts-told, parts-end}
 use Rattle.demands.specs.Heard.{AreBits, CjIsToldWhereItStands, AgreedIsTheMessageBefore, HoldsWhatWasHeard, ReportsStandOnTheLine, OtherSyncsArePassedOver, StoredOctetsStayReadable, PartsMakeNoDifference}
 
 -- the bits before the last, and the last
@@ -94,5 +94,6 @@ stored-octets-stay-readable = record { hunts = told-early; stays = λ rec bytes.
 pub parts-make-no-difference : PartsMakeNoDifference
 parts-make-no-difference = record {
   told = λ rec parts told range. parts-told rec parts told (range-fits rec range);
+  leaves = λ rec part range. call-leaves part rec (range-fits rec range);
   ends = λ rec parts range. parts-end parts rec (range-fits rec range);
 }

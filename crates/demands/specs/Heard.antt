@@ -16,7 +16,7 @@ use Rattle.sequences.specs.Writing.{writtenCj}
 use Rattle.framing.specs.Framing.{value, lastTen, octetOf, hunting, inSync, lastOfSync}
 use Rattle.listening.specs.declared.Listener.{Listener}
 use Rattle.listening.specs.Record.{inRange, fresh}
-use Rattle.listening.specs.Hearing.{Told, cj, heardBit, silent}
+use Rattle.listening.specs.Hearing.{Told, cj, heardBit, heardBits, silent}
 use Rattle.stretches.specs.Stretch.{bitsAll, Ends}
 use Rattle.stretches.specs.Hearing.{onceHeard, Report, message, noted, reports, nothing, flagged, Sent, lineOf, messagesOf, repeated, Handed}
 use Rattle.stretches.specs.Heard.{Led, PassedOver, Unsynced}
@@ -83,7 +83,9 @@ pub record StoredOctetsStayReadable : Type 0 where
   -- and from such a place on, whatever bytes come, without an accepted sync they change no octet
   pub stays : (rec : Listener) (bytes : List ℕ) → inRange rec ≡ true → rec .ear .place ≤ lastOfSync → Unsynced rec bytes → onceHeard rec bytes .msg ≡ rec .msg
 
--- many bits at once: however they are parted into calls, the calls come to an end and report what bit after bit does
+-- many bits at once: however they are parted into calls, the calls come to an end and report what bit after bit does; and a call leaves the record that
+-- the bits which it took leave, so what is asked of it is what is asked of that
 pub record PartsMakeNoDifference : Type 0 where
   pub told : (rec : Listener) (parts : List (List ℕ)) (told : List Report) → inRange rec ≡ true → Handed rec parts told → told ≡ reports rec (joined parts)
+  pub leaves : (rec : Listener) (part : List ℕ) → inRange rec ≡ true → heardBits rec part .rec ≡ onceHeard rec (take (heardBits rec part .taken) part)
   pub ends : (rec : Listener) (parts : List (List ℕ)) → inRange rec ≡ true → Handed rec parts (reports rec (joined parts))

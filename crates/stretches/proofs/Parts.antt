@@ -6,15 +6,15 @@ use native.Mathlib.Omega.{arith}
 use mathlib.Core.Path.{_≡_, refl, sym, ap, _∙_}
 use mathlib.Core.Bool.{true}
 use mathlib.Core.List.{List, [], _∷_, _++_}
-use lib.ListN.{length, drop, length-drop}
-use lib.Seq.{drop-nil}
+use lib.ListN.{length, take, drop, length-drop}
+use lib.Seq.{drop-nil, take-nil}
 use Rattle.laws.specs.Joined.{joined}
 use Rattle.laws.proofs.Logic.{either-way, clash}
 use Rattle.listening.specs.declared.Listener.{Listener}
-use Rattle.listening.specs.Hearing.{Told, silence, ci, menu, cj, refusal, ManyOutcome, taking, heardIn, silent, listened, heardBits}
+use Rattle.listening.specs.Hearing.{Told, silence, ci, menu, cj, refusal, HearOutcome, ManyOutcome, taking, heardIn, silent, listened, heardBits}
 use Rattle.listening.proofs.Ranges.{Fits, fits-range, heard-in-fits, heard-inside}
 use Rattle.listening.proofs.Many.{listened-takes, listened-fits, bits-in}
-use Rattle.stretches.specs.Hearing.{Report, noted, reports, Handed, all, taken, call}
+use Rattle.stretches.specs.Hearing.{onceHeard, Report, noted, reports, Handed, all, taken, call}
 
 is-silence : (t : Told) → silent t ≡ true → t ≡ silence
 is-silence silence e = refl
@@ -44,6 +44,33 @@ listened-on (bit ∷ bits) rest rec n fits =
     (λ _.
     let one : n + 1 - n ≡ 1 = omega arith in
     first ∙ ap (λ (k : ℕ). noted (next .report) (next .rec .msg) (reports (next .rec) (drop k (bit ∷ bits) ++ rest))) (sym one))
+
+-- and it leaves the record that those bits leave
+abbrev Leaves : Listener → List ℕ → ℕ → ManyOutcome → Type 0
+Leaves rec bits n m = m .rec ≡ onceHeard rec (take (m .taken - n) bits)
+
+listened-leaves : (bits : List ℕ) (rec : Listener) (n : ℕ) → Fits rec → Leaves rec bits n (listened rec bits n)
+unfolding listened onceHeard
+listened-leaves [] rec n fits = ap (onceHeard rec) (sym (take-nil (n - n)))
+listened-leaves (bit ∷ bits) rec n fits =
+    let is = heard-inside rec bit (fits-range rec fits) in
+    let next = heardIn rec bit in
+    let later = listened (next .rec) bits (n + 1) in
+    either-way (Leaves rec (bit ∷ bits) n) (silent (next .report)) later (taking next (n + 1))
+    (λ _.
+    let taken-more : later .taken - n ≡ suc (later .taken - (n + 1)) = omega (arith, listened-takes (next .rec) bits (n + 1) .least) in
+    listened-leaves bits (next .rec) (n + 1) (heard-in-fits rec bit fits)
+    ∙ ap (λ (o : HearOutcome). onceHeard (o .rec) (take (later .taken - (n + 1)) bits)) (sym is)
+    ∙ ap (λ (k : ℕ). onceHeard rec (take k (bit ∷ bits))) (sym taken-more))
+    (λ _.
+    let one : n + 1 - n ≡ 1 = omega arith in
+    ap (λ (o : HearOutcome). o .rec) (sym is) ∙ ap (λ (k : ℕ). onceHeard rec (take k (bit ∷ bits))) (sym one))
+
+pub call-leaves : (part : List ℕ) (rec : Listener) → Fits rec → heardBits rec part .rec ≡ onceHeard rec (take (heardBits rec part .taken) part)
+call-leaves part rec fits =
+    let m = listened rec part 0 in
+    let from-0 : m .taken - 0 ≡ m .taken = omega arith in
+    rw (bits-in rec part fits) (listened-leaves part rec 0 fits ∙ ap (λ (k : ℕ). onceHeard rec (take k part)) from-0)
 
 call-on : (part rest : List ℕ) (rec : Listener) → Fits rec → reports rec (part ++ rest) ≡ noted (heardBits rec part .report) (heardBits rec part .rec .msg) (reports (heardBits rec part .rec) (drop (heardBits rec part .taken) part ++ rest))
 call-on part rest rec fits =
