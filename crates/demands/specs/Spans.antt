@@ -20,7 +20,7 @@ use Rattle.demands.specs.Heard.{line, tells}
 abbrev pub Reports : List ℕ → ℕ → Kind → List ℕ → Bool → ℕ → Type 0
 Reports bytes byte kind octets agreed n = noted (tells bytes byte) (heardBit (line bytes) byte .rec .msg) [] ≡ message kind octets agreed n ∷ []
 
--- the bits of a line, up to the one that reports: of so many of them the first is "the first sync bit"
+-- the bits of a line, up to the one that reports: the first of the last n is "the first sync bit", bit p - n + 1 where bit p reports, counted from 0
 pub record BeganThere (kind : Kind) (octets : List ℕ) (n : ℕ) (bits : List ℕ) : Type 0 where
   pub inside : n ≤ length bits
   -- ten 1s stand before it
