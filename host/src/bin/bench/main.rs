@@ -5,6 +5,7 @@
 mod spandsp;
 
 use spandsp::Spandsp;
+use std::fmt::Debug;
 use std::hint::black_box;
 use std::path::Path;
 use std::process::{Command, Stdio};
@@ -97,19 +98,19 @@ fn writing(name: &str, kind: Kind, octets: &[u8], copies: u16) {
     assert_eq!(ours, rust, "{name}: the two wrote different bits");
 }
 
-/// How many reports there are, one bit a call.
-fn one_a_call(bits: &[u8], mut hear: impl FnMut(u8) -> Report) -> usize {
-    bits.iter().filter(|&&bit| hear(bit) != Report::Nothing).count()
+/// How many reports there are, one bit a call. A report is what is heard, or its code.
+fn one_a_call<R: PartialEq>(bits: &[u8], nothing: R, mut hear: impl FnMut(u8) -> R) -> usize {
+    bits.iter().filter(|&&bit| hear(bit) != nothing).count()
 }
 
 /// The same, many bits at once.
-fn many_at_once(mut bits: &[u8], mut hear_many: impl FnMut(&[u8]) -> (usize, Report)) -> usize {
+fn many_at_once<R: PartialEq + Debug>(mut bits: &[u8], nothing: R, mut hear_many: impl FnMut(&[u8]) -> (usize, R)) -> usize {
     let mut reports = 0;
     while !bits.is_empty() {
         let (taken, report) = hear_many(bits);
         assert!(taken > 0, "{report:?} and nothing taken");
         bits = &bits[taken..];
-        reports += usize::from(report != Report::Nothing);
+        reports += usize::from(report != nothing);
     }
     reports
 }
@@ -119,7 +120,7 @@ fn agreed_menus(name: &str, bits: &[u8]) -> usize {
     let (mut ours, mut rust) = (Listener::fresh(), plain::Listener::fresh());
     let mut reports = [(); 5].map(|()| text::Reports::default());
     let mut agreed = 0;
-    one_a_call(bits, |bit| {
+    one_a_call(bits, Report::Nothing, |bit| {
         let report = ours.hear(bit);
         reports[0].add(1, report, ours.octets());
         agreed += usize::from(matches!(report, Report::Menu { agreed: true, .. }));
@@ -128,18 +129,18 @@ fn agreed_menus(name: &str, bits: &[u8]) -> usize {
         report
     });
     let (mut ours, mut rust) = (Listener::fresh(), plain::Listener::fresh());
-    many_at_once(bits, |rest| {
+    many_at_once(bits, Report::Nothing, |rest| {
         let (taken, report) = ours.hear_many(rest);
         reports[2].add(taken, report, ours.octets());
         (taken, report)
     });
-    many_at_once(bits, |rest| {
+    many_at_once(bits, Report::Nothing, |rest| {
         let (taken, report) = rust.hear_many(rest);
         reports[3].add(taken, report, rust.octets());
         (taken, report)
     });
     let mut tuned = plain::Listener::fresh();
-    many_at_once(bits, |rest| {
+    many_at_once(bits, Report::Nothing, |rest| {
         let (taken, report) = tuned.hear_many_tuned(rest);
         reports[4].add(taken, report, tuned.octets());
         (taken, report)
@@ -149,7 +150,7 @@ fn agreed_menus(name: &str, bits: &[u8]) -> usize {
     agreed
 }
 
-/// A fresh listener of each hears the bits.
+/// A fresh listener of each hears the bits. Ours answers codes, as a host gets them: a span is asked for by a call of its own.
 fn hearing(name: &str, bits: &[u8], spandsp: Option<&Spandsp>) {
     let agreed = agreed_menus(name, bits);
     let mut as_it_stands = spandsp.map(|spandsp| || spandsp.one_a_call(black_box(bits)));
@@ -162,13 +163,14 @@ fn hearing(name: &str, bits: &[u8], spandsp: Option<&Spandsp>) {
         &format!("hear {name}, one a call"),
         bits.len(),
         &mut || {
-            let mut listener = Listener::fresh();
-            black_box(one_a_call(black_box(bits), |bit| listener.hear(bit)));
+            // SAFETY: of both calls, as of those below: the record is this closure's own, and the bits are lent with their length.
+            let mut line = unsafe { c::tailsprig_fresh() };
+            black_box(one_a_call(black_box(bits), 0, |bit| unsafe { c::tailsprig_hear(&mut line, bit) }));
         },
         [
             Some(&mut || {
                 let mut listener = plain::Listener::fresh();
-                black_box(one_a_call(black_box(bits), |bit| listener.hear(bit)));
+                black_box(one_a_call(black_box(bits), Report::Nothing, |bit| listener.hear(bit)));
             }),
             None,
             as_it_stands.as_mut().map(|work| work as Work),
@@ -185,17 +187,21 @@ fn hearing(name: &str, bits: &[u8], spandsp: Option<&Spandsp>) {
         &format!("hear {name}, many at once"),
         bits.len(),
         &mut || {
-            let mut listener = Listener::fresh();
-            black_box(many_at_once(black_box(bits), |rest| listener.hear_many(rest)));
+            let mut line = unsafe { c::tailsprig_fresh() };
+            black_box(many_at_once(black_box(bits), 0, |rest| {
+                let ran = unsafe { c::tailsprig_hear_many(line, rest.as_ptr(), rest.len()) };
+                line = ran.rec;
+                (ran.taken, ran.code)
+            }));
         },
         [
             Some(&mut || {
                 let mut listener = plain::Listener::fresh();
-                black_box(many_at_once(black_box(bits), |rest| listener.hear_many(rest)));
+                black_box(many_at_once(black_box(bits), Report::Nothing, |rest| listener.hear_many(rest)));
             }),
             Some(&mut || {
                 let mut listener = plain::Listener::fresh();
-                black_box(many_at_once(black_box(bits), |rest| listener.hear_many_tuned(rest)));
+                black_box(many_at_once(black_box(bits), Report::Nothing, |rest| listener.hear_many_tuned(rest)));
             }),
             as_it_stands.as_mut().map(|work| work as Work),
             rearmed.as_mut().map(|work| work as Work),
