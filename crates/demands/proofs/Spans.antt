@@ -7,12 +7,12 @@ use mathlib.Core.Path.{_≡_, refl, sym, ap, subst, _∙_}
 use mathlib.Core.Bool.{Bool, true, false}
 use mathlib.Core.List.{List, [], _∷_, _++_, append-assoc}
 use borrow.Author.Tests.{ltb-true, ltb-false}
-use lib.Dec.{ltb}
+use lib.Dec.{ltb, eqb}
 use lib.ListN.{length, take, drop, length-append}
 use lib.Seq.{take-append-seam, drop-append-seam}
 use Rattle.laws.specs.Logic.{when, both, either}
 use Rattle.laws.specs.Tests.{sameList}
-use Rattle.laws.proofs.Logic.{clash}
+use Rattle.laws.proofs.Logic.{either-way, clash}
 use Rattle.octets.specs.declared.Kind.{Kind}
 use Rattle.octets.specs.Lists.{firstFault}
 use Rattle.sequences.specs.Line.{framed, framedAll, tenOnes, sync, sequence}
@@ -21,7 +21,9 @@ use Rattle.sequences.proofs.Lines.{framed-length}
 use Rattle.framing.specs.Framing.{more, isCj, refusalIn, hunted, synced, bounded, stopped, ended, placed, turned}
 use Rattle.listening.specs.declared.Listener.{Listener}
 use Rattle.listening.specs.Hearing.{HearOutcome, spanOf, changed, agreed, reported, told, toldAlone, acted, heardIn, heardBit}
-use Rattle.listening.specs.Record.{fresh}
+use Rattle.listening.specs.Record.{inRange, fresh}
+use Rattle.listening.specs.Spans.{Spanned, spans, spanned, lastSpan}
+use Rattle.listening.specs.Spans as spanning
 use Rattle.listening.proofs.Acts.{heard-not-a-bit}
 use Rattle.listening.proofs.Ranges.{fits-range, fresh-fits, heard-inside}
 use Rattle.stretches.specs.Stretch.{Ends}
@@ -80,6 +82,21 @@ module _ (bytes : List ℕ) (byte : ℕ) (kind : Kind) (octets : List ℕ) (flag
   began-so : BeganThere kind octets n (bitsIn (bytes ++ byte ∷ []))
   began-so = rw (bits-behind bytes byte low) (began-there kind octets n (bitsIn bytes ++ byte ∷ []) (stood .0) (stood .1))
 
+-- a span that is asked for is refused with 10, and only out of range
+abbrev isRefused : Spanned → Bool
+isRefused spanning.none = false
+isRefused (spans n) = false
+isRefused (spanning.refusal number) = true
+
+module _ (rec : Listener) where
+  out-of-range : inRange rec ≡ false → lastSpan rec ≡ spanning.refusal 10
+  unfolding lastSpan when
+  out-of-range e = simp e
+
+  not-refused : inRange rec ≡ true → isRefused (lastSpan rec) ≡ false
+  unfolding lastSpan spanned when
+  not-refused e = simp e (either-way (λ (s : Spanned). isRefused s ≡ false) (eqb (rec .last .kind) 0) spanning.none (spans (spanOf (rec .last .len))) (λ _. refl) (λ _. refl))
+
 pub spans-tell-where-messages-began : SpansTellWhereMessagesBegan
 unfolding when both either sameList framed framedAll sequence cjBits more isCj refusalIn hunted synced bounded stopped ended placed turned changed agreed reported told toldAlone acted heardIn reports firstFault
 spans-tell-where-messages-began = record {
@@ -88,4 +105,6 @@ spans-tell-where-messages-began = record {
   number = λ bytes byte kind octets flag n so. stood bytes byte kind octets flag n so .1;
   example = refl;
   asked = last-heard;
+  outside = out-of-range;
+  within = λ rec number inside e. clash (sym (ap isRefused e) ∙ not-refused rec inside);
 }

@@ -1,16 +1,17 @@
 -- Document 02, Req 05: where a reported message began, said of the bits heard.
 use Prim.Native.Nat.{ℕ, _+_, _*_, _-_, _≤_}
 use mathlib.Core.Path.{_≡_}
-use mathlib.Core.Bool.{Bool, false}
+use mathlib.Core.Bool.{Bool, true, false}
 use mathlib.Core.List.{List, [], _∷_, _++_}
 use lib.ListN.{length, take, drop}
 use Rattle.octets.specs.declared.Kind.{Kind}
 use Rattle.octets.specs.declared.Kind.the-variants.{Ci}
 use Rattle.sequences.specs.Line.{framedAll, tenOnes, sync, sequence}
 use Rattle.sequences.specs.Line.{cj as cjBits}
+use Rattle.listening.specs.declared.Listener.{Listener}
 use Rattle.listening.specs.Hearing.{heardBit}
-use Rattle.listening.specs.Record.{fresh}
-use Rattle.listening.specs.Spans.{none, lastSpan}
+use Rattle.listening.specs.Record.{inRange, fresh}
+use Rattle.listening.specs.Spans.{none, refusal, lastSpan}
 use Rattle.stretches.specs.Stretch.{Ends}
 use Rattle.stretches.specs.Hearing.{message, cj, noted, reports, lastOf}
 use Rattle.stretches.specs.Heard.{counted, bitsIn}
@@ -40,3 +41,6 @@ pub record SpansTellWhereMessagesBegan : Type 0 where
   pub example : reports fresh (sequence Ci (0xC1 ∷ []) ++ tenOnes ++ cjBits) ≡ message Ci (0xC1 ∷ []) false 30 ∷ cj ∷ []
   -- a host that keeps the record alone is told it until the next message is reported
   pub asked : (bytes : List ℕ) → lastSpan (line bytes) ≡ lastOf none (reports fresh bytes)
+  -- document 01: "listening record or session with a field outside its range" is refused with 10, and no other is refused
+  pub outside : (rec : Listener) → inRange rec ≡ false → lastSpan rec ≡ refusal 10
+  pub within : (rec : Listener) (number : ℕ) → inRange rec ≡ true → lastSpan rec ≡ refusal number → ⊥
