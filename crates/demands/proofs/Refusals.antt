@@ -42,6 +42,7 @@ use Rattle.listening.proofs.Acts.{heard-not-a-bit}
 use Rattle.listening.proofs.Ranges.{fits-range, range-fits, fresh-fits, heard-range, heard-inside, heard-outside}
 use Rattle.listening.proofs.Many.{listened-fits, bits-in}
 use Rattle.stretches.specs.Hearing.{onceHeard, noted, reports}
+use Rattle.stretches.proofs.Parts.{is-silence}
 use Rattle.cadence.specs.declared.Cadence.{Cadence}
 use Rattle.cadence.specs.Cadence.{isFunction, isCadence, bitsFrom}
 use Rattle.cadence.specs.Giving.{cadenceFits, begun, due, GiveOutcome, giving, given}
@@ -251,13 +252,6 @@ record RefusedFrom (at : ℕ) (rec : Listener) (bits : List ℕ) (n : ℕ) (all 
   told : heardBit (onceHeard rec before) bit .report ≡ refusal n
   left : all .rec ≡ heardBit (onceHeard rec before) bit .rec
 
-quiet-told : (t : Told) → silent t ≡ true → t ≡ silence
-quiet-told silence q = refl
-quiet-told (ci span) q = clash (sym q)
-quiet-told (menu agreed span) q = clash (sym q)
-quiet-told cj q = clash (sym q)
-quiet-told (refusal n) q = clash (sym q)
-
 -- one bit more in front, which told nothing
 one-before : (at : ℕ) (rec : Listener) (bit : ℕ) (bits : List ℕ) (n : ℕ) (all : ManyOutcome) → silent (heardBit rec bit .report) ≡ true
     → RefusedFrom (at + 1) (heardBit rec bit .rec) bits n all → RefusedFrom at rec (bit ∷ bits) n all
@@ -268,7 +262,7 @@ one-before at rec bit bits n all quiet rest = record {
   untaken = rest .untaken;
   split = ap (λ (l : List ℕ). bit ∷ l) (rest .split);
   taken = omega (arith, rest .taken);
-  quietly = ap (λ (t : Told). noted t (heardBit rec bit .rec .msg) (reports (heardBit rec bit .rec) (rest .before))) (quiet-told (heardBit rec bit .report) quiet) ∙ rest .quietly;
+  quietly = ap (λ (t : Told). noted t (heardBit rec bit .rec .msg) (reports (heardBit rec bit .rec) (rest .before))) (is-silence (heardBit rec bit .report) quiet) ∙ rest .quietly;
   told = rest .told;
   left = rest .left;
 }

@@ -27,10 +27,10 @@ use Rattle.listening.specs.Spans as spanning
 use Rattle.listening.proofs.Acts.{heard-not-a-bit}
 use Rattle.listening.proofs.Ranges.{fits-range, fresh-fits, heard-inside}
 use Rattle.stretches.specs.Stretch.{Ends}
-use Rattle.stretches.specs.Hearing.{Report, message, cj, refusal, noted, reports}
+use Rattle.stretches.specs.Hearing.{message, noted, reports}
 use Rattle.stretches.specs.Heard.{bitsIn}
 use Rattle.stretches.proofs.Heard.{knows-heard}
-use Rattle.stretches.proofs.Led.{sync-length, reported-stands}
+use Rattle.stretches.proofs.Led.{sync-length, isMessage, reported-stands}
 use Rattle.stretches.proofs.Bytes.{bits-line, bits-among, bits-behind}
 use Rattle.stretches.proofs.Spans.{last-heard, report-counted}
 use Rattle.demands.specs.Heard.{line}
@@ -55,12 +55,6 @@ module _ (kind : Kind) (octets : List ℕ) (n : ℕ) (bits : List ℕ) where
         behind = (stands .0, sym taken);
         from = ap (λ (k : ℕ). drop k bits) before ∙ ap (drop (length front)) (sym parted) ∙ drop-append-seam front message-bits;
       }
-
-abbrev isMessage : List Report → Bool
-isMessage [] = false
-isMessage (message kind octets flag n ∷ later) = true
-isMessage (cj ∷ later) = false
-isMessage (refusal n ∷ later) = false
 
 module _ (bytes : List ℕ) (byte : ℕ) (kind : Kind) (octets : List ℕ) (flag : Bool) (n : ℕ) (reported-so : Reports bytes byte kind octets flag n) where
   among : line bytes ≡ line (bitsIn bytes)

@@ -249,6 +249,13 @@ stands-heard = since-fresh Stands (led.hunts refl, refl) (λ sofar rec bits-sofa
 pub led-heard : (bits : List ℕ) → Bits bits → Led bits (onceHeard fresh bits .msg) (onceHeard fresh bits .ear .place)
 led-heard bits lows = stands-heard bits lows .0
 
+-- what is noted begins with a message
+abbrev pub isMessage : List Report → Bool
+isMessage [] = false
+isMessage (message kind octets flag span ∷ later) = true
+isMessage (cj ∷ later) = false
+isMessage (refusal n ∷ later) = false
+
 -- what a bit notes where it reports a message, and that it notes none otherwise
 module _ (m last : Message) (kind : Kind) (octets : List ℕ) (flag : Bool) (span : ℕ) where
   abbrev NotesIt : Told → Type 0
@@ -258,12 +265,6 @@ module _ (m last : Message) (kind : Kind) (octets : List ℕ) (flag : Bool) (spa
   unfolding reported when
   report-noted Ci of e = let it : message Ci (octetsOf m) false (spanOf (m .len)) ∷ [] ≡ message kind octets flag span ∷ [] = sym (simp of) ∙ e in (cc, cc, cc)
   report-noted Menu of e = let it : message Menu (octetsOf m) (agreed m last) (spanOf (m .len)) ∷ [] ≡ message kind octets flag span ∷ [] = sym (simp of) ∙ e in (cc, cc, cc)
-
-  abbrev isMessage : List Report → Bool
-  isMessage [] = false
-  isMessage (message k o f n ∷ later) = true
-  isMessage (cj ∷ later) = false
-  isMessage (refusal n ∷ later) = false
 
   none-noted : (act : ℕ) → NotesIt (toldAlone act) → ⊥
   unfolding toldAlone

@@ -16,7 +16,7 @@ use Rattle.listening.proofs.Ranges.{Fits, fits-range, heard-in-fits, heard-insi
 use Rattle.listening.proofs.Many.{listened-takes, listened-fits, bits-in}
 use Rattle.stretches.specs.Hearing.{onceHeard, Report, noted, reports, Handed, all, taken, call}
 
-is-silence : (t : Told) → silent t ≡ true → t ≡ silence
+pub is-silence : (t : Told) → silent t ≡ true → t ≡ silence
 is-silence silence e = refl
 is-silence (ci span) e = clash (sym e)
 is-silence (menu agreed span) e = clash (sym e)
