@@ -1,4 +1,4 @@
--- No two choices, answers, reports or places share a number: each is found again from its number, where an item is one from 1 to 12, PCM options
+-- No two choices, answers, reports, places or items asked for share a number: each is found again from its number, where an item is one from 1 to 12, PCM options
 -- are some, an answer is one that a step can give, a place is below 64, and a refusal has a number.
 -- Assumes nothing.
 use Prim.Native.Nat.{ℕ, zero, suc, _+_, _-_}
@@ -22,10 +22,12 @@ use Rattle.listening.specs.Spans.{Spanned, spans}
 use Rattle.listening.specs.Spans as spanning
 use Rattle.menus.specs.Groups.{Looked, place, nowhere}
 use Rattle.menus.specs.Groups as looking
+use Rattle.menus.specs.Asking.{Asked, answer}
+use Rattle.menus.specs.Asking as asking
 use Rattle.codes.specs.Choosing.{choiceCode}
 use Rattle.codes.specs.Steps.{stepCode}
 use Rattle.codes.specs.Hearing.{toldCode, toldSpan, spanCode}
-use Rattle.codes.specs.Reading.{lookedCode}
+use Rattle.codes.specs.Reading.{lookedCode, askedCode, askedCount}
 
 -- a choice that is known by its number
 abbrev pub knownChoice : Chosen → Bool
@@ -138,3 +140,21 @@ place-back (looking.refusal (suc n)) known = refl
 
 pub looked-code-injective : (l k : Looked) → knownPlace l ≡ true → knownPlace k ≡ true → lookedCode l ≡ lookedCode k → l ≡ k
 looked-code-injective l k p q e = sym (place-back l p) ∙ ap placeFrom e ∙ place-back k q
+
+-- and what asking for an item does
+abbrev pub knownAsked : Asked → Bool
+knownAsked (answer offered looked) = true
+knownAsked (asking.refusal n) = ltb 0 n
+
+abbrev askedFrom : ℤ → ℕ → Asked
+askedFrom (pos n) looked = answer (eqb n 1) looked
+askedFrom (negsuc n) looked = asking.refusal (suc n)
+
+asked-back : (a : Asked) → knownAsked a ≡ true → askedFrom (askedCode a) (askedCount a) ≡ a
+asked-back (answer false looked) known = refl
+asked-back (answer true looked) known = refl
+asked-back (asking.refusal zero) known = clash (sym known)
+asked-back (asking.refusal (suc n)) known = refl
+
+pub asked-code-injective : (a b : Asked) → knownAsked a ≡ true → knownAsked b ≡ true → askedCode a ≡ askedCode b → askedCount a ≡ askedCount b → a ≡ b
+asked-code-injective a b p q e alike = sym (asked-back a p) ∙ ap₂ askedFrom e alike ∙ asked-back b q

@@ -1,11 +1,13 @@
--- Looking, reading and walking over blocks, as the numbers that cross to C.
+-- Looking, reading, asking for one item and walking over blocks, as the numbers that cross to C.
 use Prim.Native.Nat.{ℕ, _%_, _^_}
-use mathlib.Core.Bool.{false}
+use mathlib.Core.Bool.{true, false}
 use lib.IntN.{ℤ, pos, negℤ}
 use Rattle.menus.specs.declared.Offer.{Offer}
 use Rattle.menus.specs.Groups.{Looked, place, nowhere, refusal}
 use Rattle.menus.specs.Offer.{Read, offers}
 use Rattle.menus.specs.Offer as reading
+use Rattle.menus.specs.Asking.{Asked, answer}
+use Rattle.menus.specs.Asking as asking
 use Rattle.fields.specs.Blocks.{Walked, blocks}
 use Rattle.fields.specs.Blocks as walking
 
@@ -33,6 +35,16 @@ readCode (reading.refusal n) = negℤ (pos n)
 abbrev pub readOffer : Read → Offer
 readOffer (offers o) = o
 readOffer (reading.refusal n) = noOffer
+
+-- 1 where the item is offered and 0 where it is not, with how many octets were looked at, or a refusal n as -n and none
+abbrev pub askedCode : Asked → ℤ
+askedCode (answer true looked) = pos 1
+askedCode (answer false looked) = pos 0
+askedCode (asking.refusal n) = negℤ (pos n)
+
+abbrev pub askedCount : Asked → ℕ
+askedCount (answer offered looked) = looked
+askedCount (asking.refusal n) = 0
 
 -- 0 with how many blocks there are, or a refusal n as -n and none
 abbrev pub walkCode : Walked → ℤ

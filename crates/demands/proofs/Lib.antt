@@ -6,6 +6,7 @@ pub mod NotRefused
 pub mod Shared
 pub mod Joint
 pub mod Looking
+pub mod Asking
 pub mod FieldBlocks
 pub mod FieldBits
 pub mod BadRecord

@@ -29,18 +29,18 @@ not-begun : (octets : List ℕ) (t p : ℕ) → opensGroup t (getD octets p 0) �
 unfolding both
 not-begun octets t p tested begun = clash (sym (simp (begun .opens, eq-eqb _ _ (begun .tagged))) ∙ tested)
 
-begun : (octets : List ℕ) (t p : ℕ) → p < length octets → opensGroup t (getD octets p 0) ≡ true → Begins octets t p
+pub begun : (octets : List ℕ) (t p : ℕ) → p < length octets → opensGroup t (getD octets p 0) ≡ true → Begins octets t p
 begun octets t p there tested = let tests = both-true _ _ tested in record { there = there; opens = tests .0; tagged = eqb-true _ _ (tests .1) }
 
 -- one octet in front of the others
-later-begun : (b : ℕ) (bs : List ℕ) (t p : ℕ) → Begins (b ∷ bs) t (suc p) → Begins bs t p
+pub later-begun : (b : ℕ) (bs : List ℕ) (t p : ℕ) → Begins (b ∷ bs) t (suc p) → Begins bs t p
 later-begun b bs t p at = record { there = omega (arith, at .there); opens = at .opens; tagged = at .tagged }
 
-begun-later : (b : ℕ) (bs : List ℕ) (t p : ℕ) → Begins bs t p → Begins (b ∷ bs) t (suc p)
+pub begun-later : (b : ℕ) (bs : List ℕ) (t p : ℕ) → Begins bs t p → Begins (b ∷ bs) t (suc p)
 begun-later b bs t p at = record { there = omega (arith, at .there); opens = at .opens; tagged = at .tagged }
 
 -- what is found from i on, i octets being before these
-abbrev FindsFrom : List ℕ → ℕ → ℕ → Looked → Type 0
+abbrev pub FindsFrom : List ℕ → ℕ → ℕ → Looked → Type 0
 FindsFrom octets t i (place p) = (q : ℕ) × (p ≡ i + q) × FirstGroup octets t q
 FindsFrom octets t i nowhere = (q : ℕ) → Begins octets t q → ⊥
 FindsFrom octets t i (refusal n) = ⊥
@@ -59,7 +59,7 @@ module _ (b : ℕ) (bs : List ℕ) (t i : ℕ) (not-here : opensGroup t b ≡ fa
   found-later nowhere f = none-there f
   found-later (refusal n) f = f
 
-found-from : (octets : List ℕ) (t i : ℕ) → FindsFrom octets t i (firstGroup t i octets)
+pub found-from : (octets : List ℕ) (t i : ℕ) → FindsFrom octets t i (firstGroup t i octets)
 unfolding firstGroup
 found-from [] t i = λ q at. omega (arith, at .there)
 found-from (b ∷ bs) t i =
@@ -67,7 +67,7 @@ found-from (b ∷ bs) t i =
     (λ here. (0, omega arith, record { begins = begun (b ∷ bs) t 0 (omega arith) here; first = λ q low at. omega arith }))
     (λ not-here. found-later b bs t i not-here (firstGroup t (i + 1) bs) (found-from bs t (i + 1)))
 
-from-0 : (octets : List ℕ) (t : ℕ) (l : Looked) → FindsFrom octets t 0 l → Finds octets t l
+pub from-0 : (octets : List ℕ) (t : ℕ) (l : Looked) → FindsFrom octets t 0 l → Finds octets t l
 from-0 octets t (place p) f = let at : f .0 ≡ p = omega (arith, f .1) in subst (FirstGroup octets t) at (f .2)
 from-0 octets t nowhere f = f
 from-0 octets t (refusal n) f = absurd f
@@ -104,7 +104,7 @@ module _ (octets : List ℕ) (p : ℕ) (there : p < length octets) (opens : cate
   abbrev behind : List ℕ
   behind = drop (suc p) octets
 
-  part-is : partAt octets p ≡ getD octets p 0 ∷ take (untilCategory behind) behind
+  pub part-is : partAt octets p ≡ getD octets p 0 ∷ take (untilCategory behind) behind
   unfolding frontPart when
   part-is = simp (drop-cons octets p 0 there, opens)
 
@@ -122,7 +122,7 @@ module _ (octets : List ℕ) (p : ℕ) (there : p < length octets) (opens : cate
       })
 
 -- no octets have no items
-no-item : (i : ℕ) → i < 13 → hasItem [] i ≡ false
+pub no-item : (i : ℕ) → i < 13 → hasItem [] i ≡ false
 no-item i low = item-past [] i low (omega arith)
 
 some-octets : (b : ℕ) (bs : List ℕ) → stands (b ∷ bs) ≡ true

@@ -3,14 +3,14 @@
 -- Assumes nothing.
 use Prim.Native.Nat.{ℕ, zero, suc, _<_, _≤_, _+_, _%_}
 use native.Mathlib.Omega.{arith}
-use mathlib.Core.Path.{_≡_, refl, sym, ap, _∙_}
+use mathlib.Core.Path.{_≡_, refl, sym, ap, subst, _∙_}
 use mathlib.Core.Bool.{Bool, true, false}
 use mathlib.Core.List.{List, [], _∷_}
 use mathlib.Core.Logic.{⊎-elim}
-use borrow.Author.Tests.{lt-ltb, le-leb, eq-eqb, ne-eqb, eqb-true, eqb-false}
+use borrow.Author.Tests.{lt-ltb, ltb-false, le-leb, eq-eqb, ne-eqb, eqb-true, eqb-false}
 use lib.Dec.{T, ltb, eqb}
 use lib.IntN.{pos}
-use lib.ListN.{length, drop}
+use lib.ListN.{length, take, drop}
 use Rattle.laws.specs.Logic.{when, both, either}
 use Rattle.laws.specs.Tests.{allBelow}
 use Rattle.laws.proofs.Logic.{either-way, both-neither, clash}
@@ -20,9 +20,15 @@ use Rattle.octets.specs.Octets.{bad, category}
 use Rattle.octets.specs.Lists.{octetFault, firstFault, opens, mostOctets, listFault}
 use Rattle.octets.proofs.Lists.{accepted-short, before-none}
 use Rattle.refusals.proofs.Outcomes.{counted}
+use Rattle.items.specs.Items.{placeOf}
+use Rattle.items.specs.Items as items
 use Rattle.menus.specs.Groups.{Looked, place, opensGroup, firstGroup, looked, groupOf}
 use Rattle.menus.specs.Groups as looking
-use Rattle.menus.specs.Offer.{offerOf}
+use Rattle.menus.specs.Offer.{Read, offers, offerOf, menuRead}
+use Rattle.menus.specs.Offer as reading
+use Rattle.menus.specs.Asking.{Asked, answer, looks, itemIn, askedFirst, asked}
+use Rattle.menus.specs.Asking as asking
+use Rattle.menus.proofs.Asking.{looks-few}
 use Rattle.fields.specs.Field.{fieldTag, fieldOctets, fieldOf}
 use Rattle.fields.proofs.Field.{field-none}
 use Rattle.fields.proofs.Finding.{field-few}
@@ -49,15 +55,15 @@ use Rattle.steps.proofs.Answers.{possibleAnswer, answer-is-possible}
 use Rattle.codes.specs.Choosing.{choiceCode}
 use Rattle.codes.specs.Steps.{nothingCarried, stepCode}
 use Rattle.codes.specs.Hearing.{toldCode, spanCode}
-use Rattle.codes.specs.Reading.{lookedCode}
-use Rattle.codes.proofs.Apart.{knownChoice, choice-code-injective, step-code-injective, knownReport, told-code-injective, knownSpan, span-code-injective, knownPlace, looked-code-injective}
+use Rattle.codes.specs.Reading.{lookedCode, askedCode}
+use Rattle.codes.proofs.Apart.{knownChoice, choice-code-injective, step-code-injective, knownReport, told-code-injective, knownSpan, span-code-injective, knownPlace, looked-code-injective, knownAsked, asked-code-injective}
 use Rattle.demands.specs.Joint.{jmOf}
 use Rattle.demands.specs.WholeCall.{carried}
 use Rattle.demands.specs.Shared.{NotShared, cmUnread, jmUnread, itemMissing, nonePairs, Shared}
 use Rattle.stretches.specs.Hearing.{onceHeard}
 use Rattle.demands.specs.Refusals.{oneOf, RefusedBitsLeaveWhatIsLaidDown}
 use Rattle.demands.proofs.Refusals.{behind-first, refusals-leave-what-is-laid-down}
-use Rattle.demands.specs.Numbers.{choiceNumber, stepNumber, heardNumber, spanNumber, placeNumber, NumbersAreToldApart, asChosen, ChoicesAreHandedOver}
+use Rattle.demands.specs.Numbers.{choiceNumber, stepNumber, heardNumber, spanNumber, placeNumber, askedNumber, NumbersAreToldApart, asChosen, ChoicesAreHandedOver}
 use Rattle.demands.proofs.Shared.{choice-is-shared}
 
 -- what is computed of every number below a limit, where a test holds
@@ -190,6 +196,49 @@ looked-tells octets t =
     (λ fine. first-tells t 0 octets (omega (arith, accepted-short Reading octets (eqb-true (listFault Reading octets) 0 fine))))
     (λ refused. unread-tells (list-read octets) (eqb-false (listFault Reading octets) 0 refused))
 
+-- what asking for an item answers
+abbrev looksAt : Asked → ℕ
+looksAt (answer offered n) = n
+looksAt (asking.refusal n) = 1
+
+record TellsAsked (a : Asked) : Type 0 where
+  number : askedNumber (askedCode a) ≡ true
+  known : knownAsked a ≡ true
+  looks : between 1 64 (looksAt a) ≡ true
+
+answer-tells : (offered : Bool) (n : ℕ) → 0 < n → n ≤ 64 → TellsAsked (answer offered n)
+answer-tells true n low high = record { number = refl; known = refl; looks = in-range 1 64 n (omega (arith, low)) (omega (arith, high)) }
+answer-tells false n low high = record { number = refl; known = refl; looks = in-range 1 64 n (omega (arith, low)) (omega (arith, high)) }
+
+unasked-tells : {n : ℕ} → Reads n → (n ≡ 0 → ⊥) → TellsAsked (asking.refusal n)
+unfolding either both
+unasked-tells accepted some = absurd (some refl)
+unasked-tells bad-octet some = record { number = refl; known = refl; looks = refl }
+unasked-tells too-many some = record { number = refl; known = refl; looks = refl }
+unasked-tells no-function some = record { number = refl; known = refl; looks = refl }
+
+looks-some : (ahead : ℕ) (octets : List ℕ) → listFault Reading (take (looks ahead octets) octets) ≡ 0 → 0 < looks ahead octets
+unfolding looks when
+looks-some ahead [] fine = absurd (let z : ⊥ = omega (arith, fine) in z)
+looks-some ahead (b ∷ bs) fine = omega arith
+
+seen-tells : (i ahead : ℕ) (octets : List ℕ) → length octets ≤ 64 → TellsAsked (askedFirst octets i (looks ahead octets))
+unfolding menuRead
+seen-tells i ahead octets few =
+    let seen = take (looks ahead octets) octets in
+    either-way (λ (read : Read). TellsAsked (itemIn i (looks ahead octets) read)) (eqb (listFault Reading seen) 0) (offers (offerOf seen)) (reading.refusal (listFault Reading seen))
+    (λ fine. answer-tells _ (looks ahead octets) (looks-some ahead octets (eqb-true (listFault Reading seen) 0 fine)) (omega (arith, few, looks-few ahead octets)))
+    (λ refused. unasked-tells (list-read seen) (eqb-false (listFault Reading seen) 0 refused))
+
+asked-tells : (octets : List ℕ) (i : ℕ) → TellsAsked (asked octets i)
+unfolding asked either both
+asked-tells octets i =
+    let ahead = placeOf i .octet in
+    either-way TellsAsked (items.isMode i) (when (ltb mostOctets (length octets)) (asking.refusal 4) (askedFirst octets i (looks ahead octets))) (asking.refusal 9)
+    (λ _. either-way TellsAsked (ltb mostOctets (length octets)) (asking.refusal 4) (askedFirst octets i (looks ahead octets)) (λ _. record { number = refl; known = refl; looks = refl })
+    (λ few. seen-tells i ahead octets (ltb-false mostOctets (length octets) few)))
+    (λ _. record { number = refl; known = refl; looks = refl })
+
 -- what a bit reports
 record TellsReport (t : Told) : Type 0 where
   number : heardNumber (toldCode t) ≡ true
@@ -265,6 +314,9 @@ numbers-are-told-apart = record {
   spansApart = λ rec rec′ e. span-code-injective _ _ (span-tells rec .known) (span-tells rec′ .known) e;
   places = λ octets t. looked-tells octets t .number;
   placesApart = λ octets octets′ t t′ e. looked-code-injective _ _ (looked-tells octets t .known) (looked-tells octets′ t′ .known) e;
+  asks = λ octets i. asked-tells octets i .number;
+  asksApart = λ octets octets′ i i′ e alike. asked-code-injective _ _ (asked-tells octets i .known) (asked-tells octets′ i′ .known) e alike;
+  looked = λ octets i offered n told. subst (λ (a : Asked). between 1 64 (looksAt a) ≡ true) told (asked-tells octets i .looks);
   cmSize = λ own function blocks out size told.
       let menu = withField (cmOffer own function) blocks in
       let told-all = counted _ menu out size told in

@@ -1,13 +1,13 @@
 -- The order of refusals: each definition, by its tests, is the first of its faults.
 -- Assumes nothing.
-use Prim.Native.Nat.{ℕ}
+use Prim.Native.Nat.{ℕ, _≤_}
 use native.Mathlib.Omega.{arith}
 use mathlib.Core.Path.{_≡_, refl, sym, ap, subst, _∙_}
 use mathlib.Core.Bool.{Bool, true, false, not}
 use mathlib.Core.List.{List, [], _∷_, _++_}
-use borrow.Author.Tests.{eqb-true, eqb-false, ltb-true}
+use borrow.Author.Tests.{eqb-true, eqb-false, ltb-true, ltb-false, le-ltb}
 use lib.Dec.{ltb, leb, eqb}
-use lib.ListN.{length, drop}
+use lib.ListN.{length, drop, length-take}
 use Rattle.laws.specs.Logic.{when, both}
 use Rattle.laws.proofs.Logic.{either-way}
 use Rattle.refusals.specs.Refusals.{before}
@@ -17,15 +17,19 @@ use Rattle.refusals.specs.Lent as lent
 use Rattle.octets.specs.declared.Purpose.{Purpose}
 use Rattle.octets.specs.declared.Purpose.the-variants.{Reading, Writing}
 use Rattle.octets.specs.Octets.{category, bad}
-use Rattle.octets.specs.Lists.{octetFault, firstFault, opens, listFault}
+use Rattle.octets.specs.Lists.{octetFault, firstFault, opens, mostOctets, listFault}
 use Rattle.octets.proofs.EachOctet.{accepts-or-refuses}
 use Rattle.sequences.specs.Line.{sequence, copies, cj}
 use Rattle.sequences.specs.Writing.{writtenCj}
 use Rattle.sequences.proofs.Lines.{cj-length}
+use Rattle.items.specs.Items.{placeOf, inSet}
 use Rattle.menus.specs.declared.Offer.{Offer}
 use Rattle.menus.specs.Groups.{looked, groupOf}
 use Rattle.menus.specs.Offer.{offers, offerOf, menuRead}
 use Rattle.menus.specs.Offer as reading
+use Rattle.menus.specs.Asking.{Asked, answer, looks, asked}
+use Rattle.menus.specs.Asking as asking
+use Rattle.menus.proofs.Asking.{opens-seen, asked-seen}
 use Rattle.fields.specs.Blocks.{blocksFault}
 use Rattle.fields.specs.Field.{fieldTag, fieldOctets, packingFault}
 use Rattle.offers.specs.Making.{recordFault, functionFault, sizeFault}
@@ -35,7 +39,7 @@ use Rattle.steps.specs.Table.{over, rows}
 use Rattle.cadence.specs.Cadence.{isFunction}
 use Rattle.cadence.specs.Giving.{begun}
 use Rattle.steps.specs.Session as starting
-use Rattle.steps.specs.Session.{isTe, inRange, Start, ready, callerFrom}
+use Rattle.steps.specs.Session.{between, isTe, inRange, Start, ready, callerFrom}
 use Rattle.steps.specs.Stepping.{StepOutcome, elapsed, owns, carries, findRow, moved, refusedStep, timed, steppedIn, stepped}
 use Rattle.steps.proofs.Refused.{in-time-is-not-refused}
 use Rattle.demands.specs.Joint.{cmOf, jmOf}
@@ -43,7 +47,7 @@ use Rattle.octets.proofs.Lists.{before-none}
 use Rattle.demands.specs.Shared.{NotShared, cmUnread, jmUnread, itemMissing, nonePairs, Shared}
 use Rattle.demands.proofs.Refusals.{behind}
 use Rattle.demands.proofs.Shared.{choice-is-shared}
-use Rattle.demands.specs.RefusalOrder.{firstOf, answered, tooMany, noCallFunction, takes, octetFaults, stepFaults, RefusalsComeInOrder}
+use Rattle.demands.specs.RefusalOrder.{firstOf, answered, tooMany, noCallFunction, takes, octetFaults, noMode, seen, stepFaults, RefusalsComeInOrder}
 
 -- the fault of an octet behind the first
 abbrev faultOf : Purpose → ℕ → ℕ
@@ -75,6 +79,26 @@ list-fault : (p : Purpose) (octets : List ℕ) → listFault p octets ≡ firstO
 list-fault p octets =
     ap (λ (f : ℕ). when (ltb 64 (length octets)) 4 (when (opens octets) f 5)) (first-fault p (drop 1 octets))
     ∙ in-order (ltb 64 (length octets)) (opens octets) (firstOf (octetFaults p (drop 1 octets)))
+
+-- an item that is asked for: the item, then the octets looked at
+module _ (octets : List ℕ) (item : ℕ) where
+  abbrev offered : Asked
+  offered = answer (inSet (offerOf (seen octets item) .items) item) (looks (placeOf item .octet) octets)
+
+  seen-fault : length octets ≤ 64 → listFault Reading (seen octets item) ≡ firstOf (noCallFunction octets ∷ octetFaults Reading (drop 1 (seen octets item)))
+  unfolding when
+  seen-fault few =
+      let fits : length (seen octets item) ≤ 64 = omega (arith, few, length-take (looks (placeOf item .octet) octets) octets) in
+      list-fault Reading (seen octets item) ∙ simp (le-ltb 64 (length (seen octets item)) fits, opens-seen (placeOf item .octet) octets)
+
+  asked-order : (isMode many : Bool) → between 1 12 item ≡ isMode → ltb mostOctets (length octets) ≡ many
+      → asked octets item ≡ answered offered asking.refusal (firstOf (noMode item ∷ tooMany octets ∷ noCallFunction octets ∷ octetFaults Reading (drop 1 (seen octets item))))
+  unfolding asked when
+  asked-order false many none e = simp none
+  asked-order true true mode e = simp (mode, e)
+  asked-order true false mode e =
+      let few = ltb-false mostOctets (length octets) e in
+      asked-seen item mode octets few ∙ ap (answered offered asking.refusal) (seen-fault few) ∙ simp (mode, e)
 
 -- the last of the faults, as it is told
 by-last : (f : ℕ) (none : Bool) → eqb f 0 ≡ none → f ≡ when none 0 f
@@ -194,6 +218,7 @@ refusals-come-in-order = record {
   octets = list-fault;
   read = λ octets. refl;
   looked = λ octets t. refl;
+  asked = λ octets item. asked-order octets item (between 1 12 item) (ltb mostOctets (length octets)) refl refl;
   written = λ kind octets n out. put-behind (listFault (Writing kind) octets ∷ []) (roomFault (copies n (sequence kind octets)) out) (copies n (sequence kind octets)) out;
   writtenCj = cj-answer;
   field = λ heard out.

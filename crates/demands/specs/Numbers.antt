@@ -17,10 +17,11 @@ use Rattle.steps.specs.Session.{between, isChoice, inRange}
 use Rattle.steps.specs.Stepping.{refusedWith11, refusedStep, stepped}
 use Rattle.refusals.specs.Lent.{count}
 use Rattle.menus.specs.Groups.{looked}
+use Rattle.menus.specs.Asking.{answer, asked}
 use Rattle.fields.specs.Field.{fieldRead}
 use Rattle.records.specs.declared.Record.{Record}
 use Rattle.offers.specs.Making.{madeCm, madeJm}
-use Rattle.codes.specs.Reading.{lookedCode}
+use Rattle.codes.specs.Reading.{lookedCode, askedCode, askedCount}
 use Rattle.codes.specs.Choosing.{choiceCode}
 use Rattle.codes.specs.Steps.{nothingCarried, stepCode}
 use Rattle.codes.specs.Hearing.{toldCode, toldSpan, spanCode}
@@ -53,6 +54,11 @@ abbrev pub placeNumber : ℤ → Bool
 placeNumber (pos n) = leb n 64
 placeNumber (negsuc n) = oneOf (3 ∷ 4 ∷ 5 ∷ []) (suc n)
 
+-- `tailsprig_asks`: 1 where the item is offered, 0 where it is not; refusals 9, 4, 5 and 3
+abbrev pub askedNumber : ℤ → Bool
+askedNumber (pos n) = leb n 1
+askedNumber (negsuc n) = oneOf (3 ∷ 4 ∷ 5 ∷ 9 ∷ []) (suc n)
+
 -- no other numbers come, and no two answers share one
 pub record NumbersAreToldApart : Type 0 where
   pub choices : (cm jm : List ℕ) → choiceNumber (choiceCode (choiceOf cm jm)) ≡ true
@@ -71,6 +77,11 @@ pub record NumbersAreToldApart : Type 0 where
   pub spansApart : (rec rec′ : Listener) → spanCode (lastSpan rec) ≡ spanCode (lastSpan rec′) → lastSpan rec ≡ lastSpan rec′
   pub places : (octets : List ℕ) (t : ℕ) → placeNumber (lookedCode (looked octets t)) ≡ true
   pub placesApart : (octets octets′ : List ℕ) (t t′ : ℕ) → lookedCode (looked octets t) ≡ lookedCode (looked octets′ t′) → looked octets t ≡ looked octets′ t′
+  pub asks : (octets : List ℕ) (item : ℕ) → askedNumber (askedCode (asked octets item)) ≡ true
+  -- but for the octets looked at, which are a number of their own, 1 to 64
+  pub asksApart : (octets octets′ : List ℕ) (item item′ : ℕ) → askedCode (asked octets item) ≡ askedCode (asked octets′ item′) → askedCount (asked octets item) ≡ askedCount (asked octets′ item′)
+      → asked octets item ≡ asked octets′ item′
+  pub looked : (octets : List ℕ) (item : ℕ) (offered : Bool) (n : ℕ) → asked octets item ≡ answer offered n → between 1 64 n ≡ true
   -- `tailsprig_cm`: 4 to 64 octets, and 4 to 7 without blocks; `tailsprig_jm`: 1 to 64; `tailsprig_fields`: 0 to 38
   pub cmSize : (own : Record) (function : ℕ) (blocks out : List ℕ) (size : ℕ) → madeCm own function blocks out .answer ≡ count size → between 4 64 size ≡ true
   pub cmAlone : (own : Record) (function : ℕ) (out : List ℕ) (size : ℕ) → madeCm own function [] out .answer ≡ count size → between 4 7 size ≡ true

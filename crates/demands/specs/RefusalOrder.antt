@@ -5,7 +5,7 @@ use mathlib.Core.Path.{_≡_}
 use mathlib.Core.Bool.{Bool, not}
 use mathlib.Core.List.{List, [], _∷_}
 use lib.Dec.{ltb, eqb}
-use lib.ListN.{length, drop, getD}
+use lib.ListN.{length, take, drop, getD}
 use Rattle.laws.specs.Logic.{when, both}
 use Rattle.laws.specs.Tests.{every}
 use Rattle.octets.specs.declared.Kind.{Kind}
@@ -17,10 +17,13 @@ use Rattle.refusals.specs.Lent.{count}
 use Rattle.refusals.specs.Lent as lent
 use Rattle.sequences.specs.Line.{sequence, copies}
 use Rattle.sequences.specs.Writing.{written, writtenCj}
+use Rattle.items.specs.Items.{placeOf, inSet}
 use Rattle.menus.specs.Groups.{firstGroup, looked, groupOf}
 use Rattle.menus.specs.Groups as looking
 use Rattle.menus.specs.Offer.{offers, offerOf, menuRead}
 use Rattle.menus.specs.Offer as reading
+use Rattle.menus.specs.Asking.{answer, looks, asked}
+use Rattle.menus.specs.Asking as asking
 use Rattle.fields.specs.Blocks.{blocksOf, fits}
 use Rattle.fields.specs.Packing.{fillsOctets}
 use Rattle.fields.specs.Field.{fieldOctets, fieldRead}
@@ -63,6 +66,14 @@ takes (Writing kind) b = accepts kind b
 abbrev pub octetFaults : Purpose → List ℕ → List ℕ
 octetFaults p [] = []
 octetFaults p (b ∷ octets) = when (takes p b) 0 (when (bad b) 3 12) ∷ octetFaults p octets
+
+-- 9, "item not 1 to 12"
+abbrev pub noMode : ℕ → ℕ
+noMode item = when (between 1 12 item) 0 9
+
+-- the octets that are looked at where an item is asked for
+abbrev pub seen : List ℕ → ℕ → List ℕ
+seen octets item = take (looks (placeOf item .octet) octets) octets
 
 -- 6, "lent buffer too short"
 abbrev pub tooShort : List ℕ → List ℕ → ℕ
@@ -108,6 +119,9 @@ pub record RefusalsComeInOrder : Type 0 where
   pub octets : (p : Purpose) (octets : List ℕ) → listFault p octets ≡ firstOf (tooMany octets ∷ noCallFunction octets ∷ octetFaults p (drop 1 octets))
   pub read : (octets : List ℕ) → menuRead octets ≡ answered (offers (offerOf octets)) reading.refusal (listFault Reading octets)
   pub looked : (octets : List ℕ) (t : ℕ) → looked octets t ≡ answered (firstGroup t 0 octets) looking.refusal (listFault Reading octets)
+  -- document 02, Req 06: "item not 1 to 12 is 9, first of all", "4 and 5 as before", 3 among the octets looked at
+  pub asked : (octets : List ℕ) (item : ℕ) → asked octets item
+      ≡ answered (answer (inSet (offerOf (seen octets item) .items) item) (looks (placeOf item .octet) octets)) asking.refusal (firstOf (noMode item ∷ tooMany octets ∷ noCallFunction octets ∷ octetFaults Reading (drop 1 (seen octets item))))
   -- ".. then 6"
   pub written : (kind : Kind) (octets : List ℕ) (n : ℕ) (out : List ℕ) → written kind octets n out .answer
       ≡ answered (count (length (copies n (sequence kind octets)))) lent.refusal (firstOf (listFault (Writing kind) octets ∷ tooShort (copies n (sequence kind octets)) out ∷ []))

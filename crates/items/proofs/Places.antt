@@ -3,18 +3,21 @@
 -- Assumes nothing.
 use Prim.Native.Nat.{ℕ, _<_, _≤_, _+_, _*_, _%_, _/_}
 use mathlib.Core.Path.{_≡_, sym, ap, _∙_}
-use mathlib.Core.Bool.{Bool, false}
+use mathlib.Core.Bool.{Bool, true, false}
 use mathlib.Core.List.{List, [], _∷_}
-use borrow.Author.Tests.{ne-eqb}
+use borrow.Author.Tests.{leb-true, ne-eqb}
 use native.Mathlib.Nat.{div-div-eq-div-mul}
 use native.Mathlib.Omega.{arith}
-use lib.Dec.{T, ltb, ltb→lt, eqb, eqb→eq}
+use lib.Dec.{T, ltb, ltb→lt, leb, eqb, eqb→eq}
 use lib.ListN.{length, getD, List·getD-eq-default}
 use Rattle.laws.specs.Logic.{when, both}
 use Rattle.laws.specs.Tests.{allBelow}
 use Rattle.laws.proofs.Computed.{below, both-left, both-right}
+use Rattle.laws.proofs.Logic.{both-true, either-way}
 use Rattle.items.specs.declared.ItemPlace.{ItemPlace}
-use Rattle.items.specs.Items.{places, placeOf, bitOf, hasItem, setOf, itemsOf, itemBits, modulation, noItems, modulationOctet}
+use Rattle.items.specs.declared.ModePlace.{ModePlace}
+use Rattle.items.specs.declared.ModePlace.the-variants.{At, Nowhere}
+use Rattle.items.specs.Items.{places, placeOf, isMode, modePlace, bitOf, hasItem, setOf, itemsOf, itemBits, modulation, noItems, modulationOctet}
 
 -- the table of the code: 8 for each octet before it, and the bit
 abbrev pub table : List ℕ
@@ -46,6 +49,29 @@ module _ (i : ℕ) (h : i < 13) where
   pub place-octet : placeOf i .octet < 3
   unfolding places placeOf allBelow both
   place-octet = ltb→lt (placeOf i .octet) 3 (below (λ (k : ℕ). ltb (placeOf k .octet) 3) 13 tt i h)
+
+-- a mode is one of the items
+pub mode-is-item : (item : ℕ) → isMode item ≡ true → item < 13
+mode-is-item item mode = omega (arith, leb-true item 12 (both-true (leb 1 item) (leb item 12) mode .1))
+
+-- what the place of a mode tells
+abbrev placeIn : ItemPlace → ModePlace → ItemPlace
+placeIn other (At p) = p
+placeIn other Nowhere = other
+
+abbrev stands : ModePlace → ℕ
+stands (At p) = 1
+stands Nowhere = 0
+
+pub mode-there : (item : ℕ) (p : ItemPlace) → modePlace item ≡ At p → (isMode item ≡ true) × (placeOf item ≡ p)
+mode-there item p =
+    either-way (λ (m : ModePlace). m ≡ At p → (isMode item ≡ true) × (placeOf item ≡ p)) (isMode item) (At (placeOf item)) Nowhere
+    (λ mode e. (mode, ap (placeIn p) e)) (λ _ e. absurd (let z : ⊥ = omega (arith, ap stands e) in z))
+
+pub mode-nowhere : (item : ℕ) → modePlace item ≡ Nowhere → isMode item ≡ false
+mode-nowhere item =
+    either-way (λ (m : ModePlace). m ≡ Nowhere → isMode item ≡ false) (isMode item) (At (placeOf item)) Nowhere
+    (λ _ e. absurd (let z : ⊥ = omega (arith, ap stands e) in z)) (λ none _. none)
 
 -- an octet that is not there has no bits
 zero-bit : (k : ℕ) → k < 8 → bitOf k 0 ≡ 0

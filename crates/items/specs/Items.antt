@@ -2,10 +2,12 @@
 use Prim.Native.Nat.{ℕ, zero, suc, _+_, _*_, _%_, _/_, _^_}
 use mathlib.Core.Bool.{Bool}
 use mathlib.Core.List.{List, [], _∷_}
-use lib.Dec.{eqb}
+use lib.Dec.{eqb, leb}
 use lib.ListN.{getD}
-use Rattle.laws.specs.Logic.{when}
+use Rattle.laws.specs.Logic.{when, both}
 use Rattle.items.specs.declared.ItemPlace.{ItemPlace}
+use Rattle.items.specs.declared.ModePlace.{ModePlace}
+use Rattle.items.specs.declared.ModePlace.the-variants.{At, Nowhere}
 
 abbrev at : ℕ → ℕ → ItemPlace
 at octet bit = record { octet = octet; bit = record { 0 = bit } }
@@ -17,6 +19,13 @@ places = at 0 5 ∷ at 0 6 ∷ at 0 7 ∷ at 1 0 ∷ at 1 1 ∷ at 1 2 ∷ at 1 
 
 unfoldable pub placeOf : ℕ → ItemPlace
 placeOf item = getD places item (at 0 0)
+
+-- "Items 1 to 12: V.34 duplex, .. V.21."; item 0 is none of the modes
+abbrev pub isMode : ℕ → Bool
+isMode item = both (leb 1 item) (leb item 12)
+
+abbrev pub modePlace : ℕ → ModePlace
+modePlace item = when (isMode item) (At (placeOf item)) Nowhere
 
 -- a bit of an octet
 abbrev pub bitOf : ℕ → ℕ → ℕ

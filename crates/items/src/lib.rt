@@ -3,13 +3,18 @@ ghost use mathlib.Core.Path.{_≡_};
 ghost use Prim.Native.Nat.{_+_, _*_, _/_, _%_, _<_, _≤_};
 ghost use lib.Dec.{eqb};
 ghost use Rattle.laws.specs.Logic.{when};
-ghost use Rattle.items.specs.Items.{placeOf, bitOf, hasItem, itemsOf, inSet, noItems, modulationOctet};
+ghost use Rattle.items.specs.Items.{placeOf, isMode, modePlace, bitOf, hasItem, itemsOf, inSet, noItems, modulationOctet};
 
 // The tag of the modulation group.
 pub const MODULATION: u8 = 5;
 
 // How many items there are, 0 to 12.
 pub const ITEMS: u8 = 13;
+
+// The items that are modes.
+const FIRST_MODE: u8 = 1;
+
+const LAST_MODE: u8 = 12;
 
 // An extension octet that says no items: b4 alone.
 const NO_ITEMS: u8 = 16;
@@ -23,6 +28,12 @@ pub struct Bit(pub u8);
 pub struct ItemPlace {
     pub octet: u8,
     pub bit: Bit,
+}
+
+// Where a mode stands; an item that is none stands nowhere.
+pub enum ModePlace {
+    At(ItemPlace),
+    Nowhere,
 }
 
 // The places of items 0 to 12: 8 for each octet before it, and the bit.
@@ -40,11 +51,27 @@ fn place_of(item: Item) -> ItemPlace
     }
 }
 
-fn has_bit(b: u8, bit: Bit) -> bool
-    requires { ⌜ bit .0 < 8 ⌝ }
+fn is_mode(item: Item) -> bool
+    ensures { λ r. ⌜ r ≡ isMode (item .0) ⌝ }
+{
+    FIRST_MODE <= item.0 && item.0 <= LAST_MODE
+}
+
+// The place of an item from 1 to 12.
+pub fn mode_place(item: Item) -> ModePlace
+    ensures { λ r. ⌜ r ≡ modePlace (item .0) ⌝ }
+{
+    if is_mode(item) {
+        return ModePlace::At(place_of(item));
+    }
+    ModePlace::Nowhere
+}
+
+// Whether a bit of an octet is 1; none above b7 is.
+pub fn has_bit(b: u8, bit: Bit) -> bool
     ensures { λ r. ⌜ r ≡ eqb (bitOf (bit .0) b) 1 ⌝ }
 {
-    (b >> bit.0) % 2 == 1
+    bit.0 < 8 && (b >> bit.0) % 2 == 1
 }
 
 fn has_item(group: &[u8], item: Item) -> bool

@@ -1,4 +1,7 @@
-// Menus: looking for a group, its part of the message, what a menu offers, and which PCM options of two ends pair.
+// Menus: looking for a group, its part of the message, what a menu offers, one item asked for alone, and which PCM options of two ends pair.
+use items::Item;
+use items::ItemPlace;
+use items::ModePlace;
 use octets::Purpose;
 use refusals::Refusal;
 use refusals::Verdict;
@@ -10,7 +13,8 @@ ghost use Rattle.octets.specs.Lists.{untilCategory};
 ghost use Rattle.menus.specs.Groups.{saysFound, opensGroup, firstGroup, looked, partAt, onward, partStart, groupOf, optionsIn};
 ghost use Rattle.menus.specs.Offer.{pcmCounted, offerOf, saysRead, menuRead};
 ghost use Rattle.menus.specs.Pcm.{paired};
-ghost use Rattle.menus.specs.Inner.{saysSpot};
+ghost use Rattle.menus.specs.Asking.{saysAsked, asked};
+ghost use Rattle.menus.specs.Inner.{saysSpot, decided, walked, askedAt};
 
 // The tags of the groups, beside octets::CALL_FUNCTION and items::MODULATION.
 pub const PCM: u8 = 7;
@@ -50,6 +54,12 @@ pub struct Offer {
 // What reading a menu gives.
 pub enum ReadMenu {
     Offers(Offer),
+    Refused(Refusal),
+}
+
+// What asking for one item gives: whether the menu offers it, and how many octets were looked at.
+pub enum AskedItem {
+    Answer(bool, usize),
     Refused(Refusal),
 }
 
@@ -182,6 +192,72 @@ pub fn read(octets: &[u8]) -> ReadMenu
         Verdict::Refused(r) => ReadMenu::Refused(r),
         Verdict::Accepted => ReadMenu::Offers(read_offer(octets)),
     }
+}
+
+// Within the modulation group, behind its category octet: the octet that holds the item decides, or the next category octet before it.
+fn decide(octets: &[u8], opening: u8, from: usize, place: ItemPlace) -> AskedItem
+    ensures { λ r. ⌜ saysAsked r ≡ decided (place .bit .0) (place .octet) from opening (drop from (now (octets .entry))) ⌝ }
+{
+    let mut b = opening;
+    let mut looked = from;
+    let mut ahead = place.octet;
+    while 0 < ahead {
+        if octets.len() <= looked {
+            return AskedItem::Answer(false, looked);
+        }
+        b = octets[looked];
+        looked += 1;
+        if octets::is_bad(b) {
+            return AskedItem::Refused(Refusal::BadOctet);
+        }
+        if octets::is_category(b) {
+            return AskedItem::Answer(false, looked);
+        }
+        ahead -= 1;
+    }
+    AskedItem::Answer(items::has_bit(b, place.bit), looked)
+}
+
+// Behind the call function, up to the first modulation group.
+fn walk(octets: &[u8], place: ItemPlace) -> AskedItem
+    ensures { λ r. ⌜ saysAsked r ≡ walked place 1 (drop 1 (now (octets .entry))) ⌝ }
+{
+    let mut looked: usize = 1;
+    while looked < octets.len() {
+        let b = octets[looked];
+        looked += 1;
+        if octets::is_bad(b) {
+            return AskedItem::Refused(Refusal::BadOctet);
+        }
+        if opens_group(b, items::MODULATION) {
+            return decide(octets, b, looked, place);
+        }
+    }
+    AskedItem::Answer(false, looked)
+}
+
+// The number of octets and the first one, before the walk.
+fn ask_at(octets: &[u8], place: ItemPlace) -> AskedItem
+    ensures { λ r. ⌜ saysAsked r ≡ askedAt place (now (octets .entry)) ⌝ }
+{
+    if octets::MOST_OCTETS < octets.len() {
+        return AskedItem::Refused(Refusal::TooManyOctets);
+    }
+    if octets::test_first(octets) {
+        return walk(octets, place);
+    }
+    AskedItem::Refused(Refusal::NoCallFunction)
+}
+
+// Whether a menu offers one item, without the whole menu read: each octet is read once, and none behind the one that decides.
+pub fn asks(octets: &[u8], item: Item) -> AskedItem
+    ensures { λ r. ⌜ saysAsked r ≡ asked (now (octets .entry)) (item .0) ⌝ }
+{
+    let mode = items::mode_place(item);
+    let ModePlace::At(place) = mode else {
+        return AskedItem::Refused(Refusal::WrongEvent);
+    };
+    ask_at(octets, place)
 }
 
 // The PCM options of one end that pair with those of the other: b5 with b6, b6 with b5, b7 with b7.

@@ -11,9 +11,20 @@ use Rattle.laws.specs.Logic.{when, both, either}
 use Rattle.laws.specs.Tests.{every}
 use Rattle.laws.proofs.Logic.{both-true}
 use Rattle.octets.specs.declared.Purpose.{Purpose}
-use Rattle.octets.specs.Octets.{b3, b4, b5, category, tag, extension}
+use Rattle.octets.specs.declared.Purpose.the-variants.{Reading}
+use Rattle.octets.specs.Octets.{b3, b4, b5, category, tag, extension, bad}
 use Rattle.refusals.specs.Refusals.{before}
 use Rattle.octets.specs.Lists.{categoryFault, octetFault, firstFault, listFault}
+
+-- in reading an octet that is not bad has none
+no-tag-fault : (t : Bool) → _≡_ {A = ℕ} (when t 0 0) 0
+unfolding when
+no-tag-fault true = refl
+no-tag-fault false = refl
+
+pub reading-fine : (b : ℕ) → bad b ≡ false → octetFault Reading b ≡ 0
+unfolding when
+reading-fine b fine = simp fine (no-tag-fault (category b))
 
 module _ (p : Purpose) where
   extension-fine : (b : ℕ) → extension b ≡ true → octetFault p b ≡ 0

@@ -13,7 +13,7 @@ ghost use Rattle.octets.specs.Lists.{categoryFault, octetFault, firstFau
 pub const CALL_FUNCTION: u8 = 1;
 
 // What a message has at most.
-const MOST_OCTETS: usize = 64;
+pub const MOST_OCTETS: usize = 64;
 
 // The two kinds of messages with a preamble.
 pub enum Kind {
@@ -106,7 +106,7 @@ fn test_rest(purpose: Purpose, octets: &[u8]) -> Verdict
 }
 
 // The first octet: the call function's.
-fn test_first(octets: &[u8]) -> bool
+pub fn test_first(octets: &[u8]) -> bool
     ensures { λ r. ⌜ r ≡ opens (now (octets .entry)) ⌝ }
 {
     0 < octets.len() && (is_category(octets[0]) && tag_of(octets[0]) == CALL_FUNCTION)

@@ -8,17 +8,19 @@ use Rattle.refusals.specs.Lent.{WriteOutcome}
 use Rattle.listening.specs.declared.Listener.{Listener}
 use Rattle.listening.specs.Hearing.{HearOutcome, ManyOutcome}
 use Rattle.menus.specs.Offer.{Read}
+use Rattle.menus.specs.Asking.{Asked}
 use Rattle.fields.specs.Blocks.{Walked}
 use Rattle.steps.specs.Session.{Start}
 use Rattle.steps.specs.Stepping as stepping
 use Rattle.steps.specs.Drawing.{DrawOutcome}
 use Rattle.tailsprig.specs.declared.Ran.{Ran}
 use Rattle.tailsprig.specs.declared.MenuRead.{MenuRead}
+use Rattle.tailsprig.specs.declared.ItemAsked.{ItemAsked}
 use Rattle.tailsprig.specs.declared.BlocksRead.{BlocksRead}
 use Rattle.tailsprig.specs.declared.CallerStart.{CallerStart}
 use Rattle.tailsprig.specs.declared.StepTaken.{StepTaken}
 use Rattle.tailsprig.specs.declared.BitsDrawn.{BitsDrawn}
-use Rattle.tailsprig.specs.Exports.{Returns, HearsAs, RunsAs, ReadsAs, WalksAs, StartsAs, StepsAs, DrawsAs}
+use Rattle.tailsprig.specs.Exports.{Returns, HearsAs, RunsAs, ReadsAs, AsksAs, WalksAs, StartsAs, StepsAs, DrawsAs}
 
 pub returns-unique : (laid : WriteOutcome) (r s : ℤ) (after before : List ℕ) → Returns laid r after → Returns laid s before → (r ≡ s) × (after ≡ before)
 returns-unique laid r s after before p q = (p .answer ∙ sym (q .answer), p .buffer ∙ sym (q .buffer))
@@ -31,6 +33,9 @@ runs-as-unique laid a b p q = (p .answer ∙ sym (q .answer), p .rec ∙ sym (q 
 
 pub reads-as-unique : (laid : Read) (a b : MenuRead) → ReadsAs laid a → ReadsAs laid b → (a .code ≡ b .code) × (a .offer ≡ b .offer)
 reads-as-unique laid a b p q = (p .answer ∙ sym (q .answer), p .offer ∙ sym (q .offer))
+
+pub asks-as-unique : (laid : Asked) (a b : ItemAsked) → AsksAs laid a → AsksAs laid b → (a .code ≡ b .code) × (a .looked ≡ b .looked)
+asks-as-unique laid a b p q = (p .answer ∙ sym (q .answer), p .looked ∙ sym (q .looked))
 
 pub walks-as-unique : (laid : Walked) (a b : BlocksRead) → WalksAs laid a → WalksAs laid b → (a .code ≡ b .code) × (a .blocks ≡ b .blocks)
 walks-as-unique laid a b p q = (p .answer ∙ sym (q .answer), p .blocks ∙ sym (q .blocks))

@@ -7,16 +7,18 @@ use Rattle.refusals.specs.Lent.{WriteOutcome}
 use Rattle.listening.specs.declared.Listener.{Listener}
 use Rattle.listening.specs.Hearing.{HearOutcome, ManyOutcome}
 use Rattle.menus.specs.Offer.{Read}
+use Rattle.menus.specs.Asking.{Asked}
 use Rattle.fields.specs.Blocks.{Walked}
 use Rattle.steps.specs.Session.{Start}
 use Rattle.steps.specs.Stepping as stepping
 use Rattle.steps.specs.Drawing.{DrawOutcome}
 use Rattle.codes.specs.Writing.{writeCode}
 use Rattle.codes.specs.Hearing.{toldCode}
-use Rattle.codes.specs.Reading.{readCode, readOffer, walkCode, walkCount}
+use Rattle.codes.specs.Reading.{readCode, readOffer, askedCode, askedCount, walkCode, walkCount}
 use Rattle.codes.specs.Steps.{startCode, startSession, stepCode, drawCode, drawCount}
 use Rattle.tailsprig.specs.declared.Ran.{Ran}
 use Rattle.tailsprig.specs.declared.MenuRead.{MenuRead}
+use Rattle.tailsprig.specs.declared.ItemAsked.{ItemAsked}
 use Rattle.tailsprig.specs.declared.BlocksRead.{BlocksRead}
 use Rattle.tailsprig.specs.declared.CallerStart.{CallerStart}
 use Rattle.tailsprig.specs.declared.StepTaken.{StepTaken}
@@ -42,6 +44,11 @@ pub record RunsAs (laid : ManyOutcome) (r : Ran) : Type 0 where
 pub record ReadsAs (laid : Read) (r : MenuRead) : Type 0 where
   pub answer : r .code ≡ readCode laid
   pub offer : r .offer ≡ readOffer laid
+
+-- an item that is asked for
+pub record AsksAs (laid : Asked) (r : ItemAsked) : Type 0 where
+  pub answer : r .code ≡ askedCode laid
+  pub looked : r .looked ≡ askedCount laid
 
 -- blocks that are counted
 pub record WalksAs (laid : Walked) (r : BlocksRead) : Type 0 where

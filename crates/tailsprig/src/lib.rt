@@ -3,8 +3,10 @@ use codes::Asked;
 use fields::Block;
 use fields::Walk;
 use framing::NOTHING;
+use items::Item;
 use listening::Heard;
 use listening::Listener;
+use menus::AskedItem;
 use menus::Offer;
 use menus::ReadMenu;
 use records::Record;
@@ -18,6 +20,7 @@ ghost use Rattle.listening.specs.Hearing.{saysHeard, heardBit, heardBits};
 ghost use lib.ListN.{length};
 ghost use Rattle.menus.specs.Groups.{looked, partAt};
 ghost use Rattle.menus.specs.Offer.{menuRead};
+ghost use Rattle.menus.specs.Asking.{asked};
 ghost use Rattle.fields.specs.Blocks.{walked, blockAt, blockOf};
 ghost use Rattle.fields.specs.Field.{fieldRead};
 ghost use Rattle.choices.specs.Choosing.{choiceOf};
@@ -32,7 +35,7 @@ ghost use Rattle.steps.specs.Drawing.{drawn};
 ghost use Rattle.codes.specs.Steps.{carriedOf};
 ghost use Rattle.codes.specs.Writing.{kindOf, writtenAs};
 ghost use Rattle.codes.specs.Reading.{lookedCode};
-ghost use Rattle.tailsprig.specs.Exports.{Returns, HearsAs, RunsAs, ReadsAs, WalksAs, StartsAs, StepsAs, DrawsAs};
+ghost use Rattle.tailsprig.specs.Exports.{Returns, HearsAs, RunsAs, ReadsAs, AsksAs, WalksAs, StartsAs, StepsAs, DrawsAs};
 
 #[no_mangle]
 pub extern "C" fn tailsprig_write(kind: u8, octets: &[u8], copies: u16, out: &mut [u8]) -> i32
@@ -157,6 +160,31 @@ pub extern "C" fn tailsprig_read(octets: &[u8]) -> MenuRead
         },
         ReadMenu::Refused(r) => MenuRead {
             offer: codes::no_offer(),
+            code: codes::refusal_code(r),
+        },
+    }
+}
+
+// An item that is asked for, as C gets it: 1 or 0 and how many octets were looked at, or a refusal and none.
+#[repr(C)]
+pub struct ItemAsked {
+    pub looked: usize,
+    pub code: i32,
+}
+
+// Whether a menu offers one item, without the whole menu read.
+#[no_mangle]
+pub extern "C" fn tailsprig_asks(octets: &[u8], item: u8) -> ItemAsked
+    ensures { λ r. ⌜ AsksAs (asked (now (octets .entry)) item) r ⌝ }
+{
+    let asked = menus::asks(octets, Item(item));
+    match asked {
+        AskedItem::Answer(offered, looked) => ItemAsked {
+            looked: looked,
+            code: if offered { 1 } else { 0 },
+        },
+        AskedItem::Refused(r) => ItemAsked {
+            looked: 0,
             code: codes::refusal_code(r),
         },
     }

@@ -6,7 +6,7 @@ use borrow.Author.Tests.{le-ltb}
 use mathlib.Core.Path.{sym, _∙_}
 use denote.Ref.{now}
 use Rattle.items.specs.Items.{hasItem}
-use Rattle.items.proofs.Places.{place-bit, item-past}
+use Rattle.items.proofs.Places.{item-past}
 use Rattle.items.proofs.has_item.Statement.{statement}
 use Rattle.items.proofs.has_item.Tie as tie
 
@@ -20,9 +20,7 @@ shared-slice-read-has-bit : tie.Need-shared-slice-read-has-bit
 shared-slice-read-has-bit c = search needs
 
 has-bit-requires : tie.Need-has-bit-requires
-has-bit-requires c κs =
-    let placed = c .before .before .before in
-    rw (placed .place-of .ensures) (place-bit (placed .before .before .args .item .0) (placed .before .before .pre))
+has-bit-requires c κs = search needs
 
 returns : tie.Need-returns
 unfolding hasItem
