@@ -5,7 +5,7 @@
  *     Numbers with names              refusals, kinds, functions, items, PCM, access, tags
  *     Writing                         octets to bits
  *     Listening                       bits to messages, and where each began
- *     Menus                           what a menu says
+ *     Menus                           what a menu says, and whether it offers one item
  *     Makers' own fields              what a maker put into a CM, and its blocks
  *     Records, the choice             what an end can do and the menus that say it, what both ends go on with
  *     Sessions                        states, limits, events, CI, what a host does in each state and at the end
@@ -45,6 +45,8 @@ extern "C" {
  * another second one, have to be built anew; a shared library of another such number is not found when they start.
  * With another second number a call may answer otherwise than before; what a host then has to change:
  *
+ *   0.7.0  Nothing. tailsprig_asks is new and says whether a menu offers one item, without the whole menu read; all
+ *          else is as it was. A program is built anew as for 0.6.0, and its source can stay.
  *   0.6.0  Nothing. tailsprig_last_span is new and says where a reported message began; all else is as it was. A
  *          program is built anew, since the shared library has another name, and its source can stay.
  *   0.5.0  In CALLING the library gives out the bits to send, CI on and off ('CI' in Sessions). A host asks for them by
@@ -65,9 +67,9 @@ extern "C" {
  *          that long, as textphones, calls tailsprig_start_caller with TAILSPRIG_TE_TEXTPHONE in its place. A host
  *          that gives Te has nothing to change.
  */
-#define TAILSPRIG_VERSION "0.6.0"
+#define TAILSPRIG_VERSION "0.7.0"
 #define TAILSPRIG_VERSION_MAJOR 0
-#define TAILSPRIG_VERSION_MINOR 6
+#define TAILSPRIG_VERSION_MINOR 7
 #define TAILSPRIG_VERSION_PATCH 0
 
 /* ---- Numbers with names ---- */
@@ -84,7 +86,8 @@ enum tailsprig_refusal {
     TAILSPRIG_SHORT_BUFFER = 6,     /* the lent buffer is too short */
     TAILSPRIG_AFTER_OVER = 7,       /* an event after the session was over */
     TAILSPRIG_CLOCK = 8,            /* the clock ran backwards, or half its range has passed */
-    TAILSPRIG_WRONG_EVENT = 9,      /* an event of the other end, or a value outside its range */
+    TAILSPRIG_WRONG_EVENT = 9,      /* an event of the other end, or a value outside its range; in tailsprig_asks, an
+                                       item that is not 1 to 12 */
     TAILSPRIG_BAD_RECORD = 10,      /* a record, a session, Te or a kind outside its range; at a caller's start also a
                                        function that is none */
     TAILSPRIG_NOT_OFFERED = 11,     /* the choice was not offered */
@@ -329,11 +332,14 @@ int32_t tailsprig_last_span(struct tailsprig_listener rec);
 /*
  * ---- Menus ----
  *
- * A message is a list of octets, as tailsprig_hear leaves it in `msg`. Looking and reading refuse the same lists, in
- * this order:
+ * A message is a list of octets, as tailsprig_hear leaves it in `msg`. Looking for a tag and reading refuse the same
+ * lists, in this order:
  *    4  more than 64 octets
  *    5  no octets, or the first one is not a category octet with tag 1
  *    3  an octet with b4 = 1 and b3 or b5 = 1
+ *
+ * Asking for one item is apart from that. It stops at the octet that decides, and what stands behind that one is not
+ * refused: tailsprig_asks has its own list below.
  */
 
 /* What tailsprig_find answers where no group has the tag: no place is as high. */
@@ -369,6 +375,45 @@ struct tailsprig_menu_read {
 
 /* Reads a menu. */
 struct tailsprig_menu_read tailsprig_read(const uint8_t *octets, size_t octets_len);
+
+/* Answers of tailsprig_asks. */
+#define TAILSPRIG_ASKED_NO 0
+#define TAILSPRIG_ASKED_YES 1
+
+struct tailsprig_item_asked {
+    size_t looked; /* how many octets were looked at, counted from 1; 0 beside a refusal */
+    int32_t code;  /* 1 where the item is offered, 0 where it is not, or a refusal n as -n */
+};
+
+/*
+ * Asks whether a menu offers one item, 1 to 12 of enum tailsprig_item, without the whole menu read. It is for a call
+ * router, which has this one question before anything else is done:
+ *
+ *     struct tailsprig_item_asked asked = tailsprig_asks(rec.msg.octets, rec.msg.len, TAILSPRIG_ITEM_V34);
+ *     if (asked.code == TAILSPRIG_ASKED_YES)                   a refusal is not 0 either: the code has to be 1
+ *         on_v34_offered();
+ *
+ * Octets are looked at from the first one on, up to the one that decides. In the first modulation group that is the
+ * octet which holds the item: the category octet for items 1 and 2, the first extension octet for items 3 to 7, the
+ * second for items 8 to 12. Where the group is too short to have it, the next category octet decides, whatever its tag,
+ * also where it begins another modulation group: the item is not offered. Where the menu has no modulation group, or
+ * ends within a short one, nothing decides: the item is not offered.
+ *
+ * `looked` is the place of the octet that decides, counted from 1, or octets_len where nothing does. For the menu
+ * C1 45 13 90 2A it is 2 for item 1, 3 for item 3 and 4 for item 12; for C1 05 45 and item 3 it is 3.
+ *
+ * Where tailsprig_read does not refuse the menu, the answer is that of its offer.items. Octets behind the one that
+ * decides are not seen, so a menu that is refused there with 3 may be answered here. A host that goes on with a menu
+ * reads it all the same.
+ *
+ * Refusals, in this order:
+ *    9  item is not 1 to 12
+ *    4  more than 64 octets, wherever the one that decides stands
+ *    5  no octets, or the first one is not a category octet with tag 1
+ *    3  an octet with b4 = 1 and b3 or b5 = 1 that stands before the one that decides or in its place; where nothing
+ *       decides, anywhere
+ */
+struct tailsprig_item_asked tailsprig_asks(const uint8_t *octets, size_t octets_len, uint8_t item);
 
 /*
  * ---- Makers' own fields ----

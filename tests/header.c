@@ -50,6 +50,10 @@ STRUCT(tailsprig_menu_read, 12);
 FIELD(tailsprig_menu_read, offer, 0, 8);
 FIELD(tailsprig_menu_read, code, 8, 4);
 
+STRUCT(tailsprig_item_asked, 16);
+FIELD(tailsprig_item_asked, looked, 0, 8);
+FIELD(tailsprig_item_asked, code, 8, 4);
+
 STRUCT(tailsprig_span, 16);
 FIELD(tailsprig_span, place, 0, 8);
 FIELD(tailsprig_span, size, 8, 8);
@@ -191,6 +195,9 @@ NUMBER(TAILSPRIG_HEARD_MENU, 2);
 NUMBER(TAILSPRIG_HEARD_AGREED, 3);
 NUMBER(TAILSPRIG_HEARD_CJ, 4);
 
+NUMBER(TAILSPRIG_ASKED_NO, 0);
+NUMBER(TAILSPRIG_ASKED_YES, 1);
+
 NUMBER(TAILSPRIG_CALL_FUNCTION_NOWHERE, 0);
 NUMBER(TAILSPRIG_CALL_FUNCTION_HEARD, 1);
 NUMBER(TAILSPRIG_CALL_FUNCTION_OWN, 2);
@@ -236,7 +243,7 @@ NUMBER(TAILSPRIG_ENDED, 16);
 NUMBER(TAILSPRIG_GO_ON, 32);
 
 NUMBER(TAILSPRIG_VERSION_MAJOR, 0);
-NUMBER(TAILSPRIG_VERSION_MINOR, 6);
+NUMBER(TAILSPRIG_VERSION_MINOR, 7);
 NUMBER(TAILSPRIG_VERSION_PATCH, 0);
 
 #endif
@@ -494,6 +501,8 @@ static void names_in_menus(void)
 
         CHECK(tailsprig_read(menu, sizeof menu).offer.items == items[i].items);
         CHECK(tailsprig_choice(menu, sizeof menu, menu, sizeof menu) == items[i].item);
+        for (uint8_t item = TAILSPRIG_ITEM_V34; item <= TAILSPRIG_ITEM_V21; item++)
+            CHECK(tailsprig_asks(menu, sizeof menu, item).code == (item == items[i].item ? TAILSPRIG_ASKED_YES : TAILSPRIG_ASKED_NO));
     }
 }
 
@@ -537,6 +546,62 @@ static void menus(void)
     CHECK(tailsprig_find(every, 0, 1) == -TAILSPRIG_NO_CALL_FUNCTION);
     CHECK(tailsprig_part(every, sizeof every, 1) == 3 && tailsprig_part(every, sizeof every, 2) == 0);
     names_in_menus();
+}
+
+/* Menus that are asked for one item, each with the code and how many octets were looked at. */
+static void asking(void)
+{
+    static const struct {
+        uint8_t menu[6], len, item;
+        int32_t code;
+        size_t looked;
+    } rows[] = {
+        /* Each octet of the group decides for its items. */
+        {{0xC1, 0x45, 0x13, 0x90, 0x2A}, 5, TAILSPRIG_ITEM_V34, TAILSPRIG_ASKED_YES, 2},
+        {{0xC1, 0x45, 0x13, 0x90, 0x2A}, 5, TAILSPRIG_ITEM_V34_HALF_DUPLEX, TAILSPRIG_ASKED_NO, 2},
+        {{0xC1, 0x45, 0x13, 0x90, 0x2A}, 5, TAILSPRIG_ITEM_V32BIS, TAILSPRIG_ASKED_YES, 3},
+        {{0xC1, 0x45, 0x13, 0x90, 0x2A}, 5, TAILSPRIG_ITEM_V27TER, TAILSPRIG_ASKED_NO, 3},
+        {{0xC1, 0x45, 0x13, 0x90, 0x2A}, 5, TAILSPRIG_ITEM_V26TER, TAILSPRIG_ASKED_NO, 4},
+        {{0xC1, 0x45, 0x13, 0x90, 0x2A}, 5, TAILSPRIG_ITEM_V21, TAILSPRIG_ASKED_YES, 4},
+        /* A short group: the next category octet decides, another modulation octet too; or the list ends within it. */
+        {{0xC1, 0x05, 0x45, 0x11}, 4, TAILSPRIG_ITEM_V32BIS, TAILSPRIG_ASKED_NO, 3},
+        {{0xC1, 0x05, 0x11, 0x00, 0x90}, 5, TAILSPRIG_ITEM_V21, TAILSPRIG_ASKED_NO, 4},
+        {{0xC1, 0x45}, 2, TAILSPRIG_ITEM_V32BIS, TAILSPRIG_ASKED_NO, 2},
+        {{0xC1, 0x45, 0x13}, 3, TAILSPRIG_ITEM_V21, TAILSPRIG_ASKED_NO, 3},
+        /* The first group counts, wherever it stands; or there is none. */
+        {{0xC1, 0x2A, 0x05, 0x0D, 0x45}, 5, TAILSPRIG_ITEM_V34, TAILSPRIG_ASKED_NO, 3},
+        {{0xC1, 0x2A, 0x15}, 3, TAILSPRIG_ITEM_V34, TAILSPRIG_ASKED_NO, 3},
+        {{0xC1}, 1, TAILSPRIG_ITEM_V21, TAILSPRIG_ASKED_NO, 1},
+        /* An octet that cannot be read: behind the one that decides, in its place, before it, and where nothing decides. */
+        {{0xC1, 0x45, 0x18}, 3, TAILSPRIG_ITEM_V34, TAILSPRIG_ASKED_YES, 2},
+        {{0xC1, 0x45, 0x18}, 3, TAILSPRIG_ITEM_V32BIS, -TAILSPRIG_BAD_OCTET, 0},
+        {{0xC1, 0x45, 0x18, 0x10}, 4, TAILSPRIG_ITEM_V21, -TAILSPRIG_BAD_OCTET, 0},
+        {{0xC1, 0x30, 0x45}, 3, TAILSPRIG_ITEM_V34, -TAILSPRIG_BAD_OCTET, 0},
+        {{0xC1, 0x2A, 0x38}, 3, TAILSPRIG_ITEM_V34, -TAILSPRIG_BAD_OCTET, 0},
+        {{0x45}, 1, TAILSPRIG_ITEM_V34, -TAILSPRIG_NO_CALL_FUNCTION, 0},
+        {{0xC1, 0x18}, 0, TAILSPRIG_ITEM_V34, -TAILSPRIG_NO_CALL_FUNCTION, 0},
+        {{0xC1, 0x45}, 2, TAILSPRIG_ITEM_PCM, -TAILSPRIG_WRONG_EVENT, 0},
+        {{0x45}, 1, 13, -TAILSPRIG_WRONG_EVENT, 0},
+    };
+    uint8_t many[TAILSPRIG_MOST_OCTETS + 1] = {0xC1, 0x45};
+
+    for (size_t i = 0; i < sizeof rows / sizeof rows[0]; i++) {
+        struct tailsprig_item_asked asked = tailsprig_asks(rows[i].menu, rows[i].len, rows[i].item);
+        struct tailsprig_menu_read menu_read = tailsprig_read(rows[i].menu, rows[i].len);
+
+        CHECK(asked.code == rows[i].code && asked.looked == rows[i].looked);
+        CHECK(menu_read.code < 0 || asked.code < 0 || asked.code == (menu_read.offer.items >> rows[i].item & 1));
+    }
+
+    /* The longest list, and one that is too long though its second octet would decide; a wrong item is told before that. */
+    memset(many + 2, 0x10, sizeof many - 2);
+    CHECK(tailsprig_asks(many, TAILSPRIG_MOST_OCTETS, TAILSPRIG_ITEM_V34).code == TAILSPRIG_ASKED_YES);
+    CHECK(tailsprig_asks(many, sizeof many, TAILSPRIG_ITEM_V34).code == -TAILSPRIG_TOO_MANY_OCTETS);
+    CHECK(tailsprig_asks(many, sizeof many, 255).code == -TAILSPRIG_WRONG_EVENT);
+    many[0] = many[1] = 0x10;
+    CHECK(tailsprig_asks(many, sizeof many, TAILSPRIG_ITEM_V34).code == -TAILSPRIG_TOO_MANY_OCTETS);
+    many[0] = 0xC1;
+    CHECK(tailsprig_asks(many, TAILSPRIG_MOST_OCTETS, TAILSPRIG_ITEM_V34).looked == TAILSPRIG_MOST_OCTETS);
 }
 
 static bool is_span(struct tailsprig_span span, size_t place, size_t size)
@@ -1094,6 +1159,7 @@ int main(void)
     listening();
     spans();
     menus();
+    asking();
     blocks();
     fields();
     records();

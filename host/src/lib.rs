@@ -59,6 +59,13 @@ pub mod c {
         pub code: i32,
     }
 
+    #[derive(Clone, Copy, Debug, PartialEq, Eq)]
+    #[repr(C)]
+    pub struct ItemAsked {
+        pub looked: usize,
+        pub code: i32,
+    }
+
     /// A part of lent octets; not the span of a message, which is a count of bits.
     #[derive(Clone, Copy, Debug, Default, PartialEq, Eq)]
     #[repr(C)]
@@ -167,6 +174,7 @@ pub mod c {
         pub fn tailsprig_find(octets: *const u8, octets_len: usize, tag: u8) -> i32;
         pub fn tailsprig_part(octets: *const u8, octets_len: usize, place: usize) -> usize;
         pub fn tailsprig_read(octets: *const u8, octets_len: usize) -> MenuRead;
+        pub fn tailsprig_asks(octets: *const u8, octets_len: usize, item: u8) -> ItemAsked;
         pub fn tailsprig_fields(octets: *const u8, octets_len: usize, out: *mut u8, out_len: usize) -> i32;
         pub fn tailsprig_blocks(octets: *const u8, octets_len: usize) -> BlocksRead;
         pub fn tailsprig_block_of(octets: *const u8, octets_len: usize, number: usize) -> Block;
@@ -335,6 +343,21 @@ pub fn read(octets: &[u8]) -> Result<c::Offer, Refusal> {
     // SAFETY: as for `find`.
     let menu = unsafe { c::tailsprig_read(octets.as_ptr(), octets.len()) };
     count(menu.code).map(|_| menu.offer)
+}
+
+/// What a menu answers that is asked for one item.
+#[derive(Clone, Copy, Debug, PartialEq, Eq)]
+pub struct AskedItem {
+    pub offered: bool,
+    /// How many octets were looked at: up to the one that decides, or all where none does.
+    pub looked: usize,
+}
+
+/// Asks whether a menu offers an item, without the whole menu read: octets behind the one that decides are not seen.
+pub fn asks(octets: &[u8], item: u8) -> Result<AskedItem, Refusal> {
+    // SAFETY: as for `find`.
+    let asked = unsafe { c::tailsprig_asks(octets.as_ptr(), octets.len(), item) };
+    count(asked.code).map(|code| AskedItem { offered: code == 1, looked: asked.looked })
 }
 
 /// Reads the field of a heard CM into `out`, and answers how many octets it has.

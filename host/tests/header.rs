@@ -120,7 +120,7 @@ fn structs_of_the_header() -> Structs {
 #[test]
 fn the_structs_are_those_of_the_sources() {
     let declared = declared();
-    assert_eq!(declared.len(), 16, "{:?}", declared.keys());
+    assert_eq!(declared.len(), 17, "{:?}", declared.keys());
     assert_eq!(structs_of_the_header(), declared, "include/tailsprig.h");
     assert_eq!(structs_of(&read("host/src/lib.rs")), declared, "host/src/lib.rs");
 }
@@ -230,7 +230,7 @@ fn as_c_passes((name, ty): &Named) -> Vec<Named> {
 fn the_functions_are_those_of_the_sources() {
     let header = functions_of_the_header();
     let declared = functions_of(&source("tailsprig"));
-    assert_eq!(declared.len(), 22, "{:?}", declared.keys());
+    assert_eq!(declared.len(), 23, "{:?}", declared.keys());
     assert_eq!(header, functions_of(read("host/src/lib.rs").split("extern \"C\"").nth(1).expect("declarations")));
     assert!(header.keys().eq(declared.keys()), "{:?}", header.keys());
     for (name, (parameters, answer)) in &declared {
