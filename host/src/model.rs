@@ -3,9 +3,10 @@
 //! Where the pages leave room it follows `docs/DECISIONS.md`, as the library does: a comparison of the two tells whether both keep to
 //! the pages as they are read there, and not whether that reading is right.
 //!
-//! The modules follow the sections of document 01; `fields` is request 02, `cadence` request 04, and the span in `listening` request 05. What a comment has
-//! in double quotes is the text of a page, of document 01 where no request is named.
+//! The modules follow the sections of document 01; `fields` is request 02, `cadence` request 04, the span in `listening` request 05, and
+//! `asking` request 06. What a comment has in double quotes is the text of a page, of document 01 where no request is named.
 
+mod asking;
 mod bits;
 mod cadence;
 mod choice;
@@ -15,6 +16,7 @@ mod octets;
 mod records;
 mod steps;
 
+pub use asking::AskedItem;
 pub use bits::Kind;
 pub use cadence::{Cadence, Tone};
 pub use choice::Choice;
@@ -219,11 +221,43 @@ pub enum Mistake {
     SpanUntilCj,
     /// Asked behind the next accepted sync, no span is told.
     SpanUntilSync,
+    /// Item 0 may be asked for.
+    AskedItem0,
+    /// Item 13 may be asked for.
+    AskedItem13,
+    /// In asking for an item 4 comes before 9.
+    AskedSizeFirst,
+    /// In asking for an item 5 comes before 9.
+    AskedFunctionFirst,
+    /// A menu of more than 64 octets may be asked.
+    AskedLongMenu,
+    /// The last modulation group is asked.
+    AskedLastGroup,
+    /// A second modulation octet right behind a short group goes on with it.
+    AskedSecondGroup,
+    /// The octets behind a short group are taken for those that it lacks.
+    AskedPastShortGroup,
+    /// A bad octet past the deciding one is seen.
+    AskedSeesAll,
+    /// A bad octet in the place of the deciding one is not seen.
+    AskedDecidingNotSeen,
+    /// A bad octet before the deciding one is not seen.
+    AskedDecidingAloneSeen,
+    /// The place of the deciding octet is counted from 0.
+    AskedFrom0,
+    /// The first octet is not counted.
+    AskedFirstNotCounted,
+    /// The category octet that decides where the group is short is not counted.
+    AskedCategoryNotCounted,
+    /// Where the group is short, the number is always the list's length.
+    AskedLengthIfShort,
+    /// Where nothing decides, the number is 0.
+    AskedNothingIs0,
 }
 
 impl Mistake {
     /// Every mistake with the name that it is asked for by.
-    pub const ALL: [(&str, Mistake); 85] = [
+    pub const ALL: [(&str, Mistake); 101] = [
         ("room-for-one", Mistake::RoomForOne),
         ("nine-ones", Mistake::NineOnes),
         ("octet-55", Mistake::Octet55),
@@ -309,5 +343,21 @@ impl Mistake {
         ("span-of-nothing", Mistake::SpanOfNothing),
         ("span-until-cj", Mistake::SpanUntilCj),
         ("span-until-sync", Mistake::SpanUntilSync),
+        ("asked-item-0", Mistake::AskedItem0),
+        ("asked-item-13", Mistake::AskedItem13),
+        ("asked-size-first", Mistake::AskedSizeFirst),
+        ("asked-function-first", Mistake::AskedFunctionFirst),
+        ("asked-long-menu", Mistake::AskedLongMenu),
+        ("asked-last-group", Mistake::AskedLastGroup),
+        ("asked-second-group", Mistake::AskedSecondGroup),
+        ("asked-past-short-group", Mistake::AskedPastShortGroup),
+        ("asked-sees-all", Mistake::AskedSeesAll),
+        ("asked-deciding-not-seen", Mistake::AskedDecidingNotSeen),
+        ("asked-deciding-alone-seen", Mistake::AskedDecidingAloneSeen),
+        ("asked-from-0", Mistake::AskedFrom0),
+        ("asked-first-not-counted", Mistake::AskedFirstNotCounted),
+        ("asked-category-not-counted", Mistake::AskedCategoryNotCounted),
+        ("asked-length-if-short", Mistake::AskedLengthIfShort),
+        ("asked-nothing-is-0", Mistake::AskedNothingIs0),
     ];
 }

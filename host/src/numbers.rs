@@ -2,8 +2,8 @@
 use crate::{
     c,
     model::{
-        Answer, Block, Cadence, Choice, End, Ended, Event, Function, Kind, Listener, Menu, Message, Place, Record,
-        Refusal, Report, Session, Source, State, Tone,
+        Answer, AskedItem, Block, Cadence, Choice, End, Ended, Event, Function, Kind, Listener, Menu, Message, Place,
+        Record, Refusal, Report, Session, Source, State, Tone,
     },
     steps::SILENCE,
 };
@@ -116,6 +116,14 @@ pub fn menu_read(answer: Result<Menu, Refusal>) -> c::MenuRead {
             offer: c::Offer { function: 0, items: 0, pcm: 0, lapm: false, access: false, access_options: 0 },
             code: refused(refusal),
         },
+    }
+}
+
+/// What a menu answers that is asked for an item, or 0 beside the refusal.
+pub fn item_asked(answer: Result<AskedItem, Refusal>) -> c::ItemAsked {
+    match answer {
+        Ok(AskedItem { offered, looked }) => c::ItemAsked { looked, code: i32::from(offered) },
+        Err(refusal) => c::ItemAsked { looked: 0, code: refused(refusal) },
     }
 }
 

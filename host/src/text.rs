@@ -103,6 +103,11 @@ pub fn show_blocks(blocks: &[String]) -> String {
     blocks.join(" ")
 }
 
+/// Whether an item is offered, `yes` or `no`, and how many octets were looked at.
+pub fn show_asked_item(offered: bool, looked: usize) -> String {
+    format!("{} {looked}", if offered { "yes" } else { "no" })
+}
+
 /// `R` and the number.
 pub fn show_refusal(refusal: Refusal) -> String {
     format!("R{}", refusal.0)

@@ -2,8 +2,8 @@
 use std::{fs, path::PathBuf};
 use tailsprig::{
     model::{
-        Answer, Block, Cadence, Choice, Ended, Event, Kind, Listener, Model, Record, Refusal, Report, Session, Source,
-        State,
+        Answer, AskedItem, Block, Cadence, Choice, Ended, Event, Kind, Listener, Model, Record, Refusal, Report,
+        Session, Source, State,
     },
     numbers, steps,
     text::{self, Asked},
@@ -104,6 +104,15 @@ fn the_model_reads_as_the_vectors_say() {
                 menu.function,
                 u8::from(menu.lapm)
             )
+        })
+    });
+}
+
+#[test]
+fn the_model_asks_as_the_vectors_say() {
+    replay("asks.tsv", |row| {
+        shown(Model::default().asks(&octets(&row[0]), number(&row[1])), |AskedItem { offered, looked }| {
+            text::show_asked_item(offered, looked)
         })
     });
 }

@@ -6,19 +6,20 @@ use std::{env, fs, path::Path, process::ExitCode};
 use tailsprig::{
     steps::Session,
     text::{self, Asked},
-    Choice, Listener, Refusal, Report, Source,
+    AskedItem, Choice, Listener, Refusal, Report, Source,
 };
 
 /// What a row's call gives, in the text of its last column.
 type Call = fn(&[&str]) -> Result<String, String>;
 
 /// The name and the header of each kind of file, and the call for its rows.
-const FILES: [(&str, &str, Call); 12] = [
+const FILES: [(&str, &str, Call); 13] = [
     ("write.tsv", "kind\toctets\tcopies\troom\tanswer", write),
     ("listen.tsv", "input\treports", listen),
     ("find.tsv", "octets\ttag\tanswer", find),
     ("part.tsv", "octets\tplace\tanswer", part),
     ("read.tsv", "octets\tanswer", read),
+    ("asks.tsv", "octets\titem\tanswer", asks),
     ("fields.tsv", "octets\troom\tanswer", fields),
     ("blocks.tsv", "octets\tanswer", blocks),
     ("cm.tsv", "record\tfunction\tfields\troom\tanswer", cm),
@@ -136,6 +137,13 @@ fn read(row: &[&str]) -> Result<String, String> {
                 u8::from(offer.lapm)
             )
         }
+        Err(refusal) => text::show_refusal(refusal),
+    })
+}
+
+fn asks(row: &[&str]) -> Result<String, String> {
+    Ok(match tailsprig::asks(&text::octets(row[0])?, text::number(row[1])?) {
+        Ok(AskedItem { offered, looked }) => text::show_asked_item(offered, looked),
         Err(refusal) => text::show_refusal(refusal),
     })
 }

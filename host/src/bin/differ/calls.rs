@@ -25,7 +25,7 @@ pub struct Difference {
     pub model: String,
 }
 
-pub const CALLS: [Call; 21] = [
+pub const CALLS: [Call; 22] = [
     Call { name: "write", share: 4, check: write },
     Call { name: "write_cj", share: 1, check: write_cj },
     Call { name: "fresh and hear", share: 7, check: hear },
@@ -34,6 +34,7 @@ pub const CALLS: [Call; 21] = [
     Call { name: "find", share: 3, check: find },
     Call { name: "part", share: 3, check: part },
     Call { name: "read", share: 4, check: read },
+    Call { name: "asks", share: 6, check: asks },
     Call { name: "fields", share: 9, check: read_fields },
     Call { name: "blocks", share: 4, check: blocks },
     Call { name: "block_of", share: 4, check: block_of },
@@ -344,6 +345,14 @@ fn read(model: &Model, random: &mut Random, answers: &mut Answers) -> Result<(),
     let library = unsafe { c::tailsprig_read(octets.as_ptr(), octets.len()) };
     answers.insert(library.code);
     compared(library, numbers::menu_read(model.read(&octets)), || text::show_octets(&octets))
+}
+
+fn asks(model: &Model, random: &mut Random, answers: &mut Answers) -> Result<(), Difference> {
+    let (octets, item) = inputs::question(random);
+    // SAFETY: as for `find`.
+    let library = unsafe { c::tailsprig_asks(octets.as_ptr(), octets.len(), item) };
+    answers.insert(library.code);
+    compared(library, numbers::item_asked(model.asks(&octets, item)), || format!("{}\t{item}", text::show_octets(&octets)))
 }
 
 fn read_fields(model: &Model, random: &mut Random, answers: &mut Answers) -> Result<(), Difference> {

@@ -259,6 +259,45 @@ fn cm_of_any_length(random: &mut Random) -> Vec<u8> {
     octets
 }
 
+/// An item to ask a menu for, mostly one that there is.
+fn item(random: &mut Random) -> u8 {
+    match random.below(8) {
+        0 => random.of(&[0, 13, 14, 255]),
+        1 => random.byte(),
+        _ => 1 + random.byte() % 12,
+    }
+}
+
+/// A menu of few groups, most of them modulation groups, and often one of these right behind another; each too short for some items, or as
+/// V.8 builds it.
+fn menu_of_short_groups(random: &mut Random) -> Vec<u8> {
+    let mut octets = group(random, 1, 0);
+    for _ in 0..random.below(5) {
+        let tag = if random.one_in(2) { MODULATION } else { random.byte() % 16 };
+        let extensions = random.below(3);
+        octets.extend(group(random, tag, extensions));
+    }
+    octets
+}
+
+/// A menu and the item that it is asked for. Once in a few times an octet is bad: the one that decides, or one around it.
+pub fn question(random: &mut Random) -> (Vec<u8>, u8) {
+    let item = item(random);
+    let mut octets = match random.below(4) {
+        0 => menu(random),
+        1 => cm_of_any_length(random),
+        _ => menu_of_short_groups(random),
+    };
+    if random.one_in(3) {
+        let looked = Model::default().asks(&octets, item).map_or(0, |asked| asked.looked);
+        let at = (looked + random.below(4)).saturating_sub(2);
+        if let Some(octet) = octets.get_mut(at) {
+            *octet |= 0x10 | random.of(&[0x08, 0x20, 0x28]);
+        }
+    }
+    (octets, item)
+}
+
 /// A CM to answer. How many octets JM has goes by that of its modulation group.
 pub fn answered_cm(random: &mut Random) -> Vec<u8> {
     if random.one_in(2) {
