@@ -1,9 +1,11 @@
 //! The same rules in plain Rust: what the benchmark measures the proved library against.
+mod asking;
 mod fields;
 mod listener;
 mod steps;
 
 use crate::{Kind, Refusal};
+pub use asking::asks;
 pub use fields::{block_at, cm, fields};
 pub use listener::{listing, Listener};
 pub use steps::{draw, step};

@@ -1,6 +1,6 @@
 //! The plain Rust that the library is timed and compared with keeps to the same vectors and recordings, and answers the same steps.
 use std::{fs, path::PathBuf};
-use tailsprig::c::{Block, Cadence, Session, Span};
+use tailsprig::c::{Block, Cadence, ItemAsked, Session, Span};
 use tailsprig::{c, plain, text, Refusal};
 
 fn tests(name: &str) -> PathBuf {
@@ -95,9 +95,23 @@ fn show_blocks(octets: &[u8]) -> String {
     text::show_blocks(&shown)
 }
 
+fn octets(text: &str) -> Vec<u8> {
+    text::octets(text).expect("octets")
+}
+
+#[test]
+fn plain_asks_answers_as_the_vectors_say() {
+    compare("asks.tsv", |row| {
+        let ItemAsked { looked, code } = plain::asks(&octets(row[0]), text::number(row[1]).expect("an item"));
+        match code {
+            0 | 1 => text::show_asked_item(code == 1, looked),
+            _ => text::show_refusal(Refusal(code.unsigned_abs() as u8)),
+        }
+    });
+}
+
 #[test]
 fn plain_fields_and_menus_are_those_of_the_vectors() {
-    let octets = |text: &str| text::octets(text).expect("octets");
     compare("blocks.tsv", |row| show_blocks(&octets(row[0])));
     compare("fields.tsv", |row| {
         let show = |joined: &[u8]| format!("joined {} blocks {}", text::show_joined(joined), show_blocks(joined));
