@@ -1,7 +1,7 @@
 //! `bench [LISTING [READER]]`: times the proved library beside plain Rust of the same rules, alternating in one run, and
-//! prints the nanoseconds a bit, a step or a field of each and how many times as long ours takes; with the path of the listing program,
-//! its megabytes a second too; with the shared object of `speed/spandsp_reader.c`, spandsp's reader of bits beside them. The best
-//! of many rounds counts, so that what else the machine does weighs little.
+//! prints the nanoseconds a bit, a step, a field or a question of each and how many times as long ours takes; with the path of the
+//! listing program, its megabytes a second too; with the shared object of `speed/spandsp_reader.c`, spandsp's reader of bits beside
+//! them. The best of many rounds counts, so that what else the machine does weighs little.
 mod spandsp;
 
 use spandsp::Spandsp;
@@ -18,9 +18,14 @@ const ROUNDS: usize = 200;
 const MENU: [u8; 5] = [0xc1, 0x45, 0x13, 0x90, 0x2a];
 
 /// What ours is measured against: a column each.
-const RIVALS: [&str; 4] = ["Rust", "tuned", "spandsp", "re-armed"];
+const RIVALS: [&str; 5] = ["Rust", "tuned", "spandsp", "re-armed", "read"];
 
 type Work<'a> = &'a mut dyn FnMut();
+
+/// The rivals of a row in which there is no other than Rust.
+fn rust_alone<'a>(rust: Work<'a>) -> [Option<Work<'a>>; RIVALS.len()] {
+    [Some(rust), None, None, None, None]
+}
 
 /// The nanoseconds that one call of `work` takes.
 fn time(work: Work) -> f64 {
@@ -65,7 +70,7 @@ fn row(name: &str, (ours, rivals): (f64, [Option<f64>; RIVALS.len()]), show: imp
     println!("{name:<34} {} {} {:>17} {}", cell(Some(show(ours))), times.join(" "), "", ratios.join(" "));
 }
 
-/// The nanoseconds of each for one of so many bits, steps or fields.
+/// The nanoseconds of each for one of so many bits, steps, fields or questions.
 fn compare(name: &str, count: usize, ours: Work, rivals: [Option<Work>; RIVALS.len()]) {
     row(name, best(ROUNDS, ours, rivals), |nanoseconds| format!("{:.3}", nanoseconds / count as f64));
 }
@@ -84,16 +89,11 @@ fn writing(name: &str, kind: Kind, octets: &[u8], copies: u16) {
                 let _ = black_box(tailsprig::write(kind, black_box(octets), copies, black_box(&mut ours)));
             }
         },
-        [
-            Some(&mut || {
-                for _ in 0..calls {
-                    let _ = black_box(plain::write(kind, black_box(octets), copies, black_box(&mut rust)));
-                }
-            }),
-            None,
-            None,
-            None,
-        ],
+        rust_alone(&mut || {
+            for _ in 0..calls {
+                let _ = black_box(plain::write(kind, black_box(octets), copies, black_box(&mut rust)));
+            }
+        }),
     );
     assert_eq!(ours, rust, "{name}: the two wrote different bits");
 }
@@ -175,6 +175,7 @@ fn hearing(name: &str, bits: &[u8], spandsp: Option<&Spandsp>) {
             None,
             as_it_stands.as_mut().map(|work| work as Work),
             rearmed.as_mut().map(|work| work as Work),
+            None,
         ],
     );
     let mut as_it_stands = spandsp.map(|spandsp| || spandsp.many_at_once(black_box(bits)));
@@ -205,6 +206,7 @@ fn hearing(name: &str, bits: &[u8], spandsp: Option<&Spandsp>) {
             }),
             as_it_stands.as_mut().map(|work| work as Work),
             rearmed.as_mut().map(|work| work as Work),
+            None,
         ],
     );
     if let Some(spandsp) = spandsp {
@@ -282,16 +284,11 @@ fn stepping(name: &str, calls: &[(Session, &[Event])]) {
                 black_box(answers(start, black_box(events), ours));
             }
         },
-        [
-            Some(&mut || {
-                for &(start, events) in (0..times).flat_map(|_| black_box(calls)) {
-                    black_box(answers(start, black_box(events), plain::step));
-                }
-            }),
-            None,
-            None,
-            None,
-        ],
+        rust_alone(&mut || {
+            for &(start, events) in (0..times).flat_map(|_| black_box(calls)) {
+                black_box(answers(start, black_box(events), plain::step));
+            }
+        }),
     );
 }
 
@@ -341,16 +338,11 @@ fn drawing(name: &str, bits: usize, a_call: usize) {
                 black_box(drawn(&mut ours, a_call, draw));
             }
         },
-        [
-            Some(&mut || {
-                for _ in 0..times {
-                    black_box(drawn(&mut rust, a_call, plain::draw));
-                }
-            }),
-            None,
-            None,
-            None,
-        ],
+        rust_alone(&mut || {
+            for _ in 0..times {
+                black_box(drawn(&mut rust, a_call, plain::draw));
+            }
+        }),
     );
 }
 
@@ -361,7 +353,7 @@ fn again(name: &str, mut ours: impl FnMut(), mut rust: impl FnMut()) {
         name,
         TIMES,
         &mut || (0..TIMES).for_each(|_| ours()),
-        [Some(&mut || (0..TIMES).for_each(|_| rust())), None, None, None],
+        rust_alone(&mut || (0..TIMES).for_each(|_| rust())),
     );
 }
 
@@ -447,6 +439,51 @@ fn all_fields() {
     );
 }
 
+/// The items that a menu is asked for in turn: of its modulation group each octet decides one.
+const QUESTIONS: [u8; 3] = [1, 3, 12];
+
+/// Asks a menu these questions so many times.
+fn asked<A>(menu: &[u8], times: usize, asks: impl Fn(&[u8], u8) -> A) {
+    for _ in 0..times {
+        for item in QUESTIONS {
+            black_box(asks(black_box(menu), black_box(item)));
+        }
+    }
+}
+
+/// A question to a menu, beside plain Rust and beside the whole menu read by ours, which would answer it too.
+fn asking(name: &str, menu: &[u8]) {
+    const TIMES: usize = 1000;
+    // SAFETY: the slice is lent for the call alone, with its length.
+    let ours = |octets: &[u8], item| unsafe { c::tailsprig_asks(octets.as_ptr(), octets.len(), item) };
+    // SAFETY: as above.
+    let read = |octets: &[u8], _| unsafe { c::tailsprig_read(octets.as_ptr(), octets.len()) };
+    for item in QUESTIONS {
+        let answer = ours(menu, item);
+        assert_eq!(answer, plain::asks(menu, item), "{name}: not the same was answered");
+        assert_eq!(answer.code, i32::from(read(menu, item).offer.items >> item & 1), "{name}: not as it is read");
+    }
+    compare(
+        name,
+        TIMES * QUESTIONS.len(),
+        &mut || asked(menu, TIMES, ours),
+        [
+            Some(&mut || asked(menu, TIMES, plain::asks)),
+            None,
+            None,
+            None,
+            Some(&mut || asked(menu, TIMES, read)),
+        ],
+    );
+}
+
+/// A menu of five octets, and two as long as one can be: all else in them is a maker's field, behind the modulation group or before it.
+fn all_asking() {
+    asking("ask a menu of 5 octets", &MENU);
+    asking("ask 64 octets, modulation first", &[&MENU[..4], &[0x0f], &[0x10; 59]].concat());
+    asking("ask 64 octets, modulation last", &[&[0xc1, 0x0f][..], &[0x10; 59], &MENU[1..4]].concat());
+}
+
 /// The listing program on 50 MB of menus, from a file and into nothing, beside plain Rust that does the same.
 fn listing(program: &str) -> io::Result<()> {
     let input: Vec<u8> = menus(50_000_000).iter().map(|bit| b'0' + bit).collect();
@@ -480,7 +517,7 @@ fn listed(program: &str, path: &Path) -> io::Result<(f64, [Option<f64>; RIVALS.l
     Ok(best(
         10,
         &mut || drop(black_box(run(Stdio::null()))),
-        [Some(&mut || drop(black_box(rust(&mut null)))), None, None, None],
+        rust_alone(&mut || drop(black_box(rust(&mut null)))),
     ))
 }
 
@@ -506,6 +543,9 @@ fn main() -> io::Result<()> {
     println!();
     heading("nanoseconds a field");
     all_fields();
+    println!();
+    heading("nanoseconds a question");
+    all_asking();
     match env::args().nth(1) {
         Some(program) => listing(&program),
         None => Ok(()),
