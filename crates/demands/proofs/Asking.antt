@@ -29,7 +29,7 @@ use Rattle.menus.specs.Asking.{Asked, answer, refusal, looksIn, looks, itemIn, 
 use Rattle.menus.specs.Inner.{decided, walked}
 use Rattle.menus.proofs.Joined.{groupFrom, group-from}
 use Rattle.menus.proofs.Reading.{menu-read, menu-refused, read-offered}
-use Rattle.menus.proofs.Asking.{extensions, bad-no-category, item-of, asked-few, asked-mode, asked-no-mode}
+use Rattle.menus.proofs.Asking.{extensions, category-not-bad, item-of, asked-few, asked-mode, asked-no-mode}
 use Rattle.demands.specs.Looking.{Begins, FirstGroup, Finds}
 use Rattle.demands.specs.Asking.{Decides, holder, next, Ends, decides, spoils, opensNot, OneModeIsAskedQuickly}
 use Rattle.demands.proofs.Looking.{begun, later-begun, begun-later, FindsFrom, found-from, from-0, part-is, no-item}
@@ -265,16 +265,14 @@ module _ (octets : List ℕ) (item : ℕ) (offer : Offer) (mode : isMode item �
 -- a bad octet ends the walk where it is reached, and up to there the lists agree
 module _ (bit ahead looked x n : ℕ) (a b : List ℕ) where
   abbrev within : ℕ → Asked
-  within y = when (bad y) (refusal 3) (when (category y) (answer false (looked + 1)) (decided bit ahead (looked + 1) y b))
+  within y = when (category y) (answer false (looked + 1)) (when (bad y) (refusal 3) (decided bit ahead (looked + 1) y b))
 
   within-spoiled : (y : ℕ) → take (suc n) (x ∷ a) ≡ take (suc n) (y ∷ b) → (bad x ≡ false → decided bit ahead (looked + 1) x a ≡ decided bit ahead (looked + 1) x b)
-      → when (bad x) (refusal 3) (when (category x) (answer false (looked + 1)) (decided bit ahead (looked + 1) x a)) ≡ within y
+      → when (category x) (answer false (looked + 1)) (when (bad x) (refusal 3) (decided bit ahead (looked + 1) x a)) ≡ within y
   within-spoiled y same later =
-      same-either-way (bad x) (refusal 3) (refusal 3) _ _ (λ _. refl) (λ fine. same-either-way (category x) _ _ _ _ (λ _. refl) (λ _. later fine))
-      ∙ ap within (same-first x y n a b same)
+      same-either-way (category x) _ _ _ _ (λ _. refl) (λ _. same-either-way (bad x) (refusal 3) (refusal 3) _ _ (λ _. refl) later) ∙ ap within (same-first x y n a b same)
 
-decided-spoiled : (bit ahead looked z n : ℕ) (a b : List ℕ) → n < length a → bad (getD a n 0) ≡ true → take (suc n) a ≡ take (suc n) b
-    → decided bit ahead looked z a ≡ decided bit ahead looked z b
+decided-spoiled : (bit ahead looked z n : ℕ) (a b : List ℕ) → n < length a → bad (getD a n 0) ≡ true → take (suc n) a ≡ take (suc n) b → decided bit ahead looked z a ≡ decided bit ahead looked z b
 unfolding decided
 decided-spoiled bit zero looked z n a b there spoiled same = refl
 decided-spoiled bit (suc ahead) looked z n [] b there spoiled same = absurd (omega (arith, there))
@@ -285,13 +283,17 @@ decided-spoiled bit (suc ahead) looked z (suc n) (x ∷ a) (y ∷ b) there spoil
 
 module _ (at : ItemPlace) (looked x n : ℕ) (a b : List ℕ) where
   abbrev before : ℕ → Asked
-  before y = when (bad y) (refusal 3) (when (opensGroup modulation y) (decided (at .bit .0) (at .octet) (looked + 1) y b) (walked at (looked + 1) b))
+  before y =
+      when (category y) (when (eqb (tag y) modulation) (decided (at .bit .0) (at .octet) (looked + 1) y b) (walked at (looked + 1) b))
+      (when (bad y) (refusal 3) (walked at (looked + 1) b))
 
   before-spoiled : (y : ℕ) → take (suc n) (x ∷ a) ≡ take (suc n) (y ∷ b)
       → (bad x ≡ false → (decided (at .bit .0) (at .octet) (looked + 1) x a ≡ decided (at .bit .0) (at .octet) (looked + 1) x b) × (walked at (looked + 1) a ≡ walked at (looked + 1) b))
-      → when (bad x) (refusal 3) (when (opensGroup modulation x) (decided (at .bit .0) (at .octet) (looked + 1) x a) (walked at (looked + 1) a)) ≡ before y
+      → when (category x) (when (eqb (tag x) modulation) (decided (at .bit .0) (at .octet) (looked + 1) x a) (walked at (looked + 1) a)) (when (bad x) (refusal 3) (walked at (looked + 1) a)) ≡ before y
   before-spoiled y same later =
-      same-either-way (bad x) (refusal 3) (refusal 3) _ _ (λ _. refl) (λ fine. same-either-way (opensGroup modulation x) _ _ _ _ (λ _. later fine .0) (λ _. later fine .1))
+      same-either-way (category x) _ _ _ _
+      (λ c. let fine = later (category-not-bad x c) in same-either-way (eqb (tag x) modulation) _ _ _ _ (λ _. fine .0) (λ _. fine .1))
+      (λ _. same-either-way (bad x) (refusal 3) (refusal 3) _ _ (λ _. refl) (λ fine. later fine .1))
       ∙ ap before (same-first x y n a b same)
 
 walked-spoiled : (at : ItemPlace) (looked n : ℕ) (a b : List ℕ) → n < length a → bad (getD a n 0) ≡ true → take (suc n) a ≡ take (suc n) b → walked at looked a ≡ walked at looked b
@@ -306,7 +308,7 @@ walked-spoiled at looked (suc n) (x ∷ a) (y ∷ b) there spoiled same =
 
 -- two lists that agree up to and with the octet that ends the walk
 opens-bad : {A : Type 0} (x : ℕ) (a : List ℕ) → opens (x ∷ a) ≡ true → bad x ≡ true → A
-opens-bad x a opened spoiled = clash (sym (both-true (category x) (eqb (tag x) callFunctionTag) opened .0) ∙ bad-no-category x spoiled)
+opens-bad x a opened spoiled = clash (sym spoiled ∙ category-not-bad x (both-true (category x) (eqb (tag x) callFunctionTag) opened .0))
 
 first-spoiled : (at : ItemPlace) (n : ℕ) (a b : List ℕ) → n < length a → bad (getD a n 0) ≡ true → take (suc n) a ≡ take (suc n) b → opens a ≡ true → walked at 1 (drop 1 a) ≡ walked at 1 (drop 1 b)
 first-spoiled at n [] b there spoiled same opened = absurd (omega (arith, there))

@@ -7,7 +7,7 @@ use native.Mathlib.Omega.{arith}
 use mathlib.Core.Path.{_≡_, refl, sym, ap, _∙_}
 use mathlib.Core.Bool.{Bool, true, false}
 use mathlib.Core.List.{List, [], _∷_}
-use borrow.Author.Tests.{eqb-true, ne-eqb, ltb-false, le-ltb}
+use borrow.Author.Tests.{eqb-true, eq-eqb, ne-eqb, ltb-false, le-ltb}
 use lib.Dec.{ltb, eqb}
 use lib.ListN.{length, take, drop, getD, length-take, drop-of-length-le}
 use lib.Seq.{drop-cons}
@@ -18,7 +18,6 @@ use Rattle.refusals.proofs.Numbers.{named, named-number}
 use Rattle.octets.specs.declared.Purpose.the-variants.{Reading}
 use Rattle.octets.specs.Octets.{b4, category, tag, callFunctionTag, bad}
 use Rattle.octets.specs.Lists.{firstFault, opens, listFault, untilCategory}
-use Rattle.octets.proofs.Fine.{reading-fine}
 use Rattle.items.specs.declared.ItemPlace.{ItemPlace}
 use Rattle.items.specs.Items.{placeOf, isMode, bitOf, hasItem, inSet, modulation}
 use Rattle.items.proofs.Places.{mode-is-item}
@@ -44,23 +43,23 @@ module _ (bit b : ℕ) (s : List ℕ) (i : ℕ) where
   decided-end zero some past = absurd (omega (arith, some))
   decided-end (suc ahead) some past = simp (drop-of-length-le s past)
 
-  pub decided-bad : (ahead : ℕ) → 0 < ahead → i < length s → bad (getD s i 0) ≡ true → decided bit ahead i b (drop i s) ≡ refusal 3
+  pub decided-short : (ahead : ℕ) → 0 < ahead → i < length s → category (getD s i 0) ≡ true → decided bit ahead i b (drop i s) ≡ answer false (i + 1)
   unfolding decided when
-  decided-bad zero some there e = absurd (omega (arith, some))
-  decided-bad (suc ahead) some there e = simp (drop-cons s i 0 there, e)
+  decided-short zero some there c = absurd (omega (arith, some))
+  decided-short (suc ahead) some there c = simp (drop-cons s i 0 there, c)
 
-  pub decided-short : (ahead : ℕ) → 0 < ahead → i < length s → bad (getD s i 0) ≡ false → category (getD s i 0) ≡ true → decided bit ahead i b (drop i s) ≡ answer false (i + 1)
+  pub decided-bad : (ahead : ℕ) → 0 < ahead → i < length s → category (getD s i 0) ≡ false → bad (getD s i 0) ≡ true → decided bit ahead i b (drop i s) ≡ refusal 3
   unfolding decided when
-  decided-short zero some there fine e = absurd (omega (arith, some))
-  decided-short (suc ahead) some there fine e = simp (drop-cons s i 0 there, fine, e)
+  decided-bad zero some there c e = absurd (omega (arith, some))
+  decided-bad (suc ahead) some there c e = simp (drop-cons s i 0 there, c, e)
 
-  pub decided-on : (ahead : ℕ) → 0 < ahead → i < length s → bad (getD s i 0) ≡ false → category (getD s i 0) ≡ false
+  pub decided-on : (ahead : ℕ) → 0 < ahead → i < length s → category (getD s i 0) ≡ false → bad (getD s i 0) ≡ false
       → decided bit ahead i b (drop i s) ≡ decided bit (ahead - 1) (i + 1) (getD s i 0) (drop (i + 1) s)
   unfolding decided when
-  decided-on zero some there fine e = absurd (omega (arith, some))
-  decided-on (suc ahead) some there fine e =
+  decided-on zero some there c e = absurd (omega (arith, some))
+  decided-on (suc ahead) some there c e =
       let less : suc ahead - 1 ≡ ahead = omega arith in
-      simp (drop-cons s i 0 there, fine, e, less, add-one)
+      simp (drop-cons s i 0 there, c, e, less, add-one)
 
 -- and before it
 module _ (at : ItemPlace) (s : List ℕ) (i : ℕ) where
@@ -68,22 +67,27 @@ module _ (at : ItemPlace) (s : List ℕ) (i : ℕ) where
   unfolding walked
   walked-end past = simp (drop-of-length-le s past)
 
-  pub walked-bad : i < length s → bad (getD s i 0) ≡ true → walked at i (drop i s) ≡ refusal 3
-  unfolding walked when
-  walked-bad there e = simp (drop-cons s i 0 there, e)
-
-  pub walked-group : i < length s → bad (getD s i 0) ≡ false → opensGroup modulation (getD s i 0) ≡ true
+  pub walked-group : i < length s → category (getD s i 0) ≡ true → tag (getD s i 0) ≡ modulation
       → walked at i (drop i s) ≡ decided (at .bit .0) (at .octet) (i + 1) (getD s i 0) (drop (i + 1) s)
   unfolding walked when
-  walked-group there fine e = simp (drop-cons s i 0 there, fine, e, add-one)
+  walked-group there c t = simp (drop-cons s i 0 there, c, eq-eqb (tag (getD s i 0)) modulation t, add-one)
 
-  pub walked-on : i < length s → bad (getD s i 0) ≡ false → opensGroup modulation (getD s i 0) ≡ false → walked at i (drop i s) ≡ walked at (i + 1) (drop (i + 1) s)
+  pub walked-other : i < length s → category (getD s i 0) ≡ true → (tag (getD s i 0) ≡ modulation → ⊥) → walked at i (drop i s) ≡ walked at (i + 1) (drop (i + 1) s)
   unfolding walked when
-  walked-on there fine e = simp (drop-cons s i 0 there, fine, e, add-one)
+  walked-other there c t = simp (drop-cons s i 0 there, c, ne-eqb (tag (getD s i 0)) modulation t, add-one)
 
--- a bad octet is no category octet
-pub bad-no-category : (b : ℕ) → bad b ≡ true → category b ≡ false
-bad-no-category b e = let one : b4 b ≡ 1 = eqb-true _ _ (both-true _ _ e .0) in ne-eqb (b4 b) 0 (λ z. omega (arith, one, z))
+  pub walked-bad : i < length s → category (getD s i 0) ≡ false → bad (getD s i 0) ≡ true → walked at i (drop i s) ≡ refusal 3
+  unfolding walked when
+  walked-bad there c e = simp (drop-cons s i 0 there, c, e)
+
+  pub walked-on : i < length s → category (getD s i 0) ≡ false → bad (getD s i 0) ≡ false → walked at i (drop i s) ≡ walked at (i + 1) (drop (i + 1) s)
+  unfolding walked when
+  walked-on there c e = simp (drop-cons s i 0 there, c, e, add-one)
+
+-- a category octet is no bad one
+pub category-not-bad : (b : ℕ) → category b ≡ true → bad b ≡ false
+unfolding both
+category-not-bad b c = let none : b4 b ≡ 0 = eqb-true _ _ c in simp none
 
 -- one octet more is looked at
 one-more : (looked n : ℕ) → looked + 1 + n ≡ looked + suc n
@@ -112,18 +116,18 @@ module _ (bit : ℕ) where
       unless (firstFault Reading seen) (answer (isOne bit (getD (b ∷ extensions seen) ahead 0)) (looked + looksIn ahead bs))
 
   in-group-by : (ahead looked b next : ℕ) (bs : List ℕ) → decided bit ahead (looked + 1) next bs ≡ inGroup ahead (looked + 1) next bs
-      → (isBad isCategory : Bool) → bad next ≡ isBad → category next ≡ isCategory
-      → when isBad (refusal 3) (when isCategory (answer false (looked + 1)) (decided bit ahead (looked + 1) next bs)) ≡ inGroup (suc ahead) looked b (next ∷ bs)
+      → (isCategory isBad : Bool) → category next ≡ isCategory → bad next ≡ isBad
+      → when isCategory (answer false (looked + 1)) (when isBad (refusal 3) (decided bit ahead (looked + 1) next bs)) ≡ inGroup (suc ahead) looked b (next ∷ bs)
   unfolding when looksIn firstFault untilCategory
-  in-group-by ahead looked b next bs later true isCategory e c = simp (e, bad-no-category next e)
-  in-group-by ahead looked b next bs later false true e c = simp (e, c, no-bit)
-  in-group-by ahead looked b next bs later false false e c = later ∙ simp (e, c, one-more looked (looksIn ahead bs))
+  in-group-by ahead looked b next bs later true isBad c e = simp (c, category-not-bad next c, no-bit)
+  in-group-by ahead looked b next bs later false true c e = simp (c, e)
+  in-group-by ahead looked b next bs later false false c e = later ∙ simp (c, e, one-more looked (looksIn ahead bs))
 
   in-group : (ahead looked b : ℕ) (bs : List ℕ) → decided bit ahead looked b bs ≡ inGroup ahead looked b bs
   unfolding decided looksIn firstFault untilCategory when
   in-group zero looked b bs = simp unary-clauses
   in-group (suc ahead) looked b [] = simp (no-bit, unary-clauses)
-  in-group (suc ahead) looked b (next ∷ bs) = in-group-by ahead looked b next bs (in-group ahead (looked + 1) next bs) (bad next) (category next) refl refl
+  in-group (suc ahead) looked b (next ∷ bs) = in-group-by ahead looked b next bs (in-group ahead (looked + 1) next bs) (category next) (bad next) refl refl
 
 -- and so have those of the menu, up to there
 module _ (at : ItemPlace) where
@@ -133,19 +137,19 @@ module _ (at : ItemPlace) where
       unless (firstFault Reading seen) (answer (isOne (at .bit .0) (getD (groupFrom modulation seen) (at .octet) 0)) (looked + looks (at .octet) s))
 
   in-menu-by : (looked b : ℕ) (bs : List ℕ) → walked at (looked + 1) bs ≡ inMenu (looked + 1) bs
-      → (isBad opening : Bool) → bad b ≡ isBad → opensGroup modulation b ≡ opening
-      → when isBad (refusal 3) (when opening (decided (at .bit .0) (at .octet) (looked + 1) b bs) (walked at (looked + 1) bs)) ≡ inMenu looked (b ∷ bs)
+      → (isCategory isModulation isBad : Bool) → category b ≡ isCategory → eqb (tag b) modulation ≡ isModulation → bad b ≡ isBad
+      → when isCategory (when isModulation (decided (at .bit .0) (at .octet) (looked + 1) b bs) (walked at (looked + 1) bs)) (when isBad (refusal 3) (walked at (looked + 1) bs)) ≡ inMenu looked (b ∷ bs)
   unfolding when both looks firstFault groupFrom frontPart
-  in-menu-by looked b bs later true opening e o = simp e
-  in-menu-by looked b bs later false true e o =
-      let tests = both-true (category b) (eqb (tag b) modulation) o in
-      in-group (at .bit .0) (at .octet) (looked + 1) b bs ∙ simp (e, tests .0, tests .1, one-more looked (looksIn (at .octet) bs))
-  in-menu-by looked b bs later false false e o = later ∙ simp (reading-fine b e, o, one-more looked (looks (at .octet) bs))
+  in-menu-by looked b bs later true true isBad c t e =
+      in-group (at .bit .0) (at .octet) (looked + 1) b bs ∙ simp (c, category-not-bad b c, t, one-more looked (looksIn (at .octet) bs))
+  in-menu-by looked b bs later true false isBad c t e = later ∙ simp (c, category-not-bad b c, t, one-more looked (looks (at .octet) bs))
+  in-menu-by looked b bs later false isModulation true c t e = simp (c, e)
+  in-menu-by looked b bs later false isModulation false c t e = later ∙ simp (c, e, one-more looked (looks (at .octet) bs))
 
   in-menu : (looked : ℕ) (s : List ℕ) → walked at looked s ≡ inMenu looked s
   unfolding walked looks firstFault groupFrom when
   in-menu looked [] = simp (no-bit (at .bit .0), unary-clauses)
-  in-menu looked (b ∷ bs) = in-menu-by looked b bs (in-menu (looked + 1) bs) (bad b) (opensGroup modulation b) refl refl
+  in-menu looked (b ∷ bs) = in-menu-by looked b bs (in-menu (looked + 1) bs) (category b) (eqb (tag b) modulation) (bad b) refl refl refl
 
 -- no more octets are looked at than there are, and the first is one of them
 looks-in-few : (ahead : ℕ) (s : List ℕ) → looksIn ahead s ≤ length s

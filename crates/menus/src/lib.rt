@@ -207,18 +207,19 @@ fn decide(octets: &[u8], opening: u8, from: usize, place: ItemPlace) -> AskedIte
         }
         b = octets[looked];
         looked += 1;
-        if octets::is_bad(b) {
-            return AskedItem::Refused(Refusal::BadOctet);
-        }
         if octets::is_category(b) {
             return AskedItem::Answer(false, looked);
+        }
+        if octets::is_bad(b) {
+            return AskedItem::Refused(Refusal::BadOctet);
         }
         ahead -= 1;
     }
     AskedItem::Answer(items::has_bit(b, place.bit), looked)
 }
 
-// Behind the call function, up to the first modulation group.
+// Behind the call function, up to the first modulation group. The kind of an octet is asked first: of an extension octet two bits more are
+// looked at, and of a category octet its tag.
 fn walk(octets: &[u8], place: ItemPlace) -> AskedItem
     ensures { λ r. ⌜ saysAsked r ≡ walked place 1 (drop 1 (now (octets .entry))) ⌝ }
 {
@@ -226,11 +227,14 @@ fn walk(octets: &[u8], place: ItemPlace) -> AskedItem
     while looked < octets.len() {
         let b = octets[looked];
         looked += 1;
-        if octets::is_bad(b) {
-            return AskedItem::Refused(Refusal::BadOctet);
-        }
-        if opens_group(b, items::MODULATION) {
-            return decide(octets, b, looked, place);
+        if octets::is_category(b) {
+            if octets::tag_of(b) == items::MODULATION {
+                return decide(octets, b, looked, place);
+            }
+        } else {
+            if octets::is_bad(b) {
+                return AskedItem::Refused(Refusal::BadOctet);
+            }
         }
     }
     AskedItem::Answer(false, looked)

@@ -33,26 +33,26 @@ shared-slice-read-b c = search needs
 add-looked : tie.Need-add-looked Inv-loop μ-loop
 add-looked c = search needs
 
-is-bad-requires : tie.Need-is-bad-requires Inv-loop μ-loop
-is-bad-requires c κs = search needs
+is-category-requires : tie.Need-is-category-requires Inv-loop μ-loop
+is-category-requires c κs = search needs
 
 returns-2 : tie.Need-returns-2 Inv-loop μ-loop
 returns-2 c =
     let asked = c .before in
     let at-loop = asked .before .before .before .before in
     let args = at-loop .before .before .args in
-    sym (at-loop .loop .inv ∙ decided-bad (args .place .bit .0) (at-loop .loop .b) (now (args .octets)) (at-loop .loop .looked) (at-loop .loop .ahead) (search needs) (search needs) (sym (asked .is-bad .ensures) ∙ c .if2 .taken))
+    sym (at-loop .loop .inv ∙ decided-short (args .place .bit .0) (at-loop .loop .b) (now (args .octets)) (at-loop .loop .looked) (at-loop .loop .ahead) (search needs) (search needs) (sym (asked .is-category .ensures) ∙ c .if2 .taken))
 
-is-category-requires : tie.Need-is-category-requires Inv-loop μ-loop
-is-category-requires c κs = search needs
+is-bad-requires : tie.Need-is-bad-requires Inv-loop μ-loop
+is-bad-requires c κs = search needs
 
 returns-3 : tie.Need-returns-3 Inv-loop μ-loop
 returns-3 c =
-    let asked = c .before in
-    let tested = asked .before .before in
-    let at-loop = tested .before .before .before .before in
+    let tested = c .before in
+    let asked = tested .before .before in
+    let at-loop = asked .before .before .before .before in
     let args = at-loop .before .before .args in
-    sym (at-loop .loop .inv ∙ decided-short (args .place .bit .0) (at-loop .loop .b) (now (args .octets)) (at-loop .loop .looked) (at-loop .loop .ahead) (search needs) (search needs) (sym (tested .is-bad .ensures) ∙ asked .before .if2 .left) (sym (asked .is-category .ensures) ∙ c .if3 .taken))
+    sym (at-loop .loop .inv ∙ decided-bad (args .place .bit .0) (at-loop .loop .b) (now (args .octets)) (at-loop .loop .looked) (at-loop .loop .ahead) (search needs) (search needs) (sym (asked .is-category .ensures) ∙ tested .before .if2 .left) (sym (tested .is-bad .ensures) ∙ c .if3 .taken))
 
 sub-ahead : tie.Need-sub-ahead Inv-loop μ-loop
 sub-ahead c = search needs
@@ -62,11 +62,11 @@ loop-less c = search needs
 
 loop-again : tie.Need-loop-again Inv-loop μ-loop
 loop-again c =
-    let asked = c .before in
-    let tested = asked .before .before in
-    let at-loop = tested .before .before .before .before in
+    let tested = c .before in
+    let asked = tested .before .before in
+    let at-loop = asked .before .before .before .before in
     let args = at-loop .before .before .args in
-    at-loop .loop .inv ∙ decided-on (args .place .bit .0) (at-loop .loop .b) (now (args .octets)) (at-loop .loop .looked) (at-loop .loop .ahead) (search needs) (search needs) (sym (tested .is-bad .ensures) ∙ asked .before .if2 .left) (sym (asked .is-category .ensures) ∙ c .if3 .left)
+    at-loop .loop .inv ∙ decided-on (args .place .bit .0) (at-loop .loop .b) (now (args .octets)) (at-loop .loop .looked) (at-loop .loop .ahead) (search needs) (search needs) (sym (asked .is-category .ensures) ∙ tested .before .if2 .left) (sym (tested .is-bad .ensures) ∙ c .if3 .left)
 
 has-bit-requires : tie.Need-has-bit-requires Inv-loop μ-loop
 has-bit-requires c κs = search needs
@@ -87,9 +87,9 @@ decide-spec =
     returns
     shared-slice-read-b
     add-looked
-    is-bad-requires
-    returns-2
     is-category-requires
+    returns-2
+    is-bad-requires
     returns-3
     sub-ahead
     loop-less

@@ -6,7 +6,7 @@ use mathlib.Core.Path.{_≡_, refl, sym, _∙_}
 use lib.ListN.{length, drop}
 use denote.Ref.{now}
 use Rattle.menus.specs.Inner.{walked}
-use Rattle.menus.proofs.Asking.{walked-end, walked-bad, walked-group, walked-on}
+use Rattle.menus.proofs.Asking.{walked-end, walked-group, walked-other, walked-bad, walked-on}
 use Rattle.menus.proofs.walk.Statement.{statement}
 use Rattle.menus.proofs.walk.Tie as tie
 
@@ -25,41 +25,56 @@ shared-slice-read-b c = search needs
 add-looked : tie.Need-add-looked Inv-loop μ-loop
 add-looked c = search needs
 
-is-bad-requires : tie.Need-is-bad-requires Inv-loop μ-loop
-is-bad-requires c κs = search needs
+is-category-requires : tie.Need-is-category-requires Inv-loop μ-loop
+is-category-requires c κs = search needs
 
-returns : tie.Need-returns Inv-loop μ-loop
-returns c =
-    let asked = c .before in
-    let at-loop = asked .before .before .before in
-    let args = at-loop .before .before .args in
-    sym (at-loop .loop .inv ∙ walked-bad (args .place) (now (args .octets)) (at-loop .loop .looked) (search needs) (sym (asked .is-bad .ensures) ∙ c .if1 .taken))
-
-opens-group-requires : tie.Need-opens-group-requires Inv-loop μ-loop
-opens-group-requires c κs = search needs
+tag-of-requires : tie.Need-tag-of-requires Inv-loop μ-loop
+tag-of-requires c κs = search needs
 
 decide-requires : tie.Need-decide-requires Inv-loop μ-loop
 decide-requires c κs = search needs
 
-returns-2 : tie.Need-returns-2 Inv-loop μ-loop
-returns-2 c =
-    let opened = c .before .before in
-    let asked = opened .before .before in
+returns : tie.Need-returns Inv-loop μ-loop
+returns c =
+    let tagged = c .before .before in
+    let asked = tagged .before .before in
     let at-loop = asked .before .before .before in
     let args = at-loop .before .before .args in
     c .decide .ensures
-    ∙ sym (at-loop .loop .inv ∙ walked-group (args .place) (now (args .octets)) (at-loop .loop .looked) (search needs) (sym (asked .is-bad .ensures) ∙ opened .before .if1 .left) (sym (opened .opens-group .ensures) ∙ c .before .if2 .taken))
+    ∙ sym (at-loop .loop .inv ∙ walked-group (args .place) (now (args .octets)) (at-loop .loop .looked) (search needs) (sym (asked .is-category .ensures) ∙ tagged .before .if1 .taken) (sym (tagged .tag-of .ensures) ∙ c .before .if2 .taken))
 
 loop-less : tie.Need-loop-less Inv-loop μ-loop
 loop-less c = search needs
 
 loop-again : tie.Need-loop-again Inv-loop μ-loop
 loop-again c =
-    let opened = c .before in
-    let asked = opened .before .before in
+    let tagged = c .before in
+    let asked = tagged .before .before in
     let at-loop = asked .before .before .before in
     let args = at-loop .before .before .args in
-    at-loop .loop .inv ∙ walked-on (args .place) (now (args .octets)) (at-loop .loop .looked) (search needs) (sym (asked .is-bad .ensures) ∙ opened .before .if1 .left) (sym (opened .opens-group .ensures) ∙ c .if2 .left)
+    at-loop .loop .inv ∙ walked-other (args .place) (now (args .octets)) (at-loop .loop .looked) (search needs) (sym (asked .is-category .ensures) ∙ tagged .before .if1 .taken) (λ e. c .if2 .left (tagged .tag-of .ensures ∙ e))
+
+is-bad-requires : tie.Need-is-bad-requires Inv-loop μ-loop
+is-bad-requires c κs = search needs
+
+returns-2 : tie.Need-returns-2 Inv-loop μ-loop
+returns-2 c =
+    let tested = c .before in
+    let asked = tested .before .before in
+    let at-loop = asked .before .before .before in
+    let args = at-loop .before .before .args in
+    sym (at-loop .loop .inv ∙ walked-bad (args .place) (now (args .octets)) (at-loop .loop .looked) (search needs) (sym (asked .is-category .ensures) ∙ tested .before .if1 .left) (sym (tested .is-bad .ensures) ∙ c .if3 .taken))
+
+loop-less-2 : tie.Need-loop-less-2 Inv-loop μ-loop
+loop-less-2 c = search needs
+
+loop-again-2 : tie.Need-loop-again-2 Inv-loop μ-loop
+loop-again-2 c =
+    let tested = c .before in
+    let asked = tested .before .before in
+    let at-loop = asked .before .before .before in
+    let args = at-loop .before .before .args in
+    at-loop .loop .inv ∙ walked-on (args .place) (now (args .octets)) (at-loop .loop .looked) (search needs) (sym (asked .is-category .ensures) ∙ tested .before .if1 .left) (sym (tested .is-bad .ensures) ∙ c .if3 .left)
 
 returns-3 : tie.Need-returns-3 Inv-loop μ-loop
 returns-3 c =
@@ -76,11 +91,14 @@ walk-spec =
     loop-holds
     shared-slice-read-b
     add-looked
-    is-bad-requires
-    returns
-    opens-group-requires
+    is-category-requires
+    tag-of-requires
     decide-requires
-    returns-2
+    returns
     loop-less
     loop-again
+    is-bad-requires
+    returns-2
+    loop-less-2
+    loop-again-2
     returns-3)
