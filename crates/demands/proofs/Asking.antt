@@ -6,10 +6,10 @@ use native.Mathlib.Omega.{arith}
 use mathlib.Core.Path.{_≡_, refl, sym, ap, subst, _∙_}
 use mathlib.Core.Bool.{Bool, true, false}
 use mathlib.Core.List.{List, [], _∷_}
-use borrow.Author.Tests.{eqb-true, eq-eqb, leb-true, le-ltb, ltb-true, ltb-false}
+use borrow.Author.Tests.{eqb-true, eq-eqb, le-ltb, ltb-true, ltb-false}
 use lib.Dec.{eqb, ltb}
 use lib.ListN.{length, take, drop, getD, length-take, length-drop, take-append-drop}
-use lib.Seq.{take-take, take-add, drop-append-seam, length-take-le}
+use lib.Seq.{take-take, take-add, drop-append-seam}
 use Rattle.laws.specs.Logic.{when, both}
 use Rattle.laws.proofs.Logic.{both-true, clash, same-either-way}
 use Rattle.refusals.specs.declared.Refusal.the-variants.{BadOctet}
@@ -30,7 +30,7 @@ use Rattle.menus.specs.Inner.{decided, walked}
 use Rattle.menus.proofs.Joined.{groupFrom, group-from}
 use Rattle.menus.proofs.Reading.{menu-read, menu-refused, read-offered}
 use Rattle.menus.proofs.Asking.{extensions, category-not-bad, item-of, asked-few, asked-mode, asked-no-mode}
-use Rattle.demands.specs.Looking.{Begins, FirstGroup, Finds}
+use Rattle.demands.specs.Looking.{Begins, FirstGroup}
 use Rattle.demands.specs.Asking.{Decides, holder, next, Ends, decides, spoils, opensNot, OneModeIsAskedQuickly}
 use Rattle.demands.proofs.Looking.{begun, later-begun, begun-later, FindsFrom, found-from, from-0, part-is, no-item}
 

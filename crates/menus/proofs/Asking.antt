@@ -11,9 +11,8 @@ use borrow.Author.Tests.{eqb-true, eq-eqb, ne-eqb, ltb-false, le-ltb}
 use lib.Dec.{ltb, eqb}
 use lib.ListN.{length, take, drop, getD, length-take, drop-of-length-le}
 use lib.Seq.{drop-cons}
-use Rattle.laws.specs.Logic.{when, both, either}
+use Rattle.laws.specs.Logic.{when, both}
 use Rattle.laws.proofs.Logic.{either-way, both-true, clash, same-either-way}
-use Rattle.refusals.specs.declared.Refusal.{Refusal}
 use Rattle.refusals.proofs.Numbers.{named, named-number}
 use Rattle.octets.specs.declared.Purpose.the-variants.{Reading}
 use Rattle.octets.specs.Octets.{b4, category, tag, callFunctionTag, bad}

@@ -247,7 +247,7 @@ fn ask_at(octets: &[u8], place: ItemPlace) -> AskedItem
     if octets::MOST_OCTETS < octets.len() {
         return AskedItem::Refused(Refusal::TooManyOctets);
     }
-    if octets::test_first(octets) {
+    if 0 < octets.len() && opens_group(octets[0], octets::CALL_FUNCTION) {
         return walk(octets, place);
     }
     AskedItem::Refused(Refusal::NoCallFunction)

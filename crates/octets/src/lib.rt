@@ -106,7 +106,7 @@ fn test_rest(purpose: Purpose, octets: &[u8]) -> Verdict
 }
 
 // The first octet: the call function's.
-pub fn test_first(octets: &[u8]) -> bool
+fn test_first(octets: &[u8]) -> bool
     ensures { λ r. ⌜ r ≡ opens (now (octets .entry)) ⌝ }
 {
     0 < octets.len() && (is_category(octets[0]) && tag_of(octets[0]) == CALL_FUNCTION)
