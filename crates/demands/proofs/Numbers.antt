@@ -55,7 +55,7 @@ use Rattle.steps.proofs.Answers.{possibleAnswer, answer-is-possible}
 use Rattle.codes.specs.Choosing.{choiceCode}
 use Rattle.codes.specs.Steps.{nothingCarried, stepCode}
 use Rattle.codes.specs.Hearing.{toldCode, spanCode}
-use Rattle.codes.specs.Reading.{lookedCode, askedCode}
+use Rattle.codes.specs.Reading.{lookedCode, askedCode, askedCount}
 use Rattle.codes.proofs.Apart.{knownChoice, choice-code-injective, step-code-injective, knownReport, told-code-injective, knownSpan, span-code-injective, knownPlace, looked-code-injective, knownAsked, asked-code-injective}
 use Rattle.demands.specs.Joint.{jmOf}
 use Rattle.demands.specs.WholeCall.{carried}
@@ -210,6 +210,11 @@ answer-tells : (offered : Bool) (n : ℕ) → 0 < n → n ≤ 64 → TellsAsked 
 answer-tells true n low high = record { number = refl; known = refl; looks = in-range 1 64 n (omega (arith, low)) (omega (arith, high)) }
 answer-tells false n low high = record { number = refl; known = refl; looks = in-range 1 64 n (omega (arith, low)) (omega (arith, high)) }
 
+offered-code : (offered : Bool) (n : ℕ) → askedCode (answer offered n) ≡ pos (when offered 1 0)
+unfolding when
+offered-code true n = refl
+offered-code false n = refl
+
 unasked-tells : {n : ℕ} → Reads n → (n ≡ 0 → ⊥) → TellsAsked (asking.refusal n)
 unfolding either both
 unasked-tells accepted some = absurd (some refl)
@@ -317,6 +322,7 @@ numbers-are-told-apart = record {
   asks = λ octets i. asked-tells octets i .number;
   asksApart = λ octets octets′ i i′ e alike. asked-code-injective _ _ (asked-tells octets i .known) (asked-tells octets′ i′ .known) e alike;
   looked = λ octets i offered n told. subst (λ (a : Asked). between 1 64 (looksAt a) ≡ true) told (asked-tells octets i .looks);
+  told = λ octets i offered n e. (ap askedCode e ∙ offered-code offered n, ap askedCount e);
   cmSize = λ own function blocks out size told.
       let menu = withField (cmOffer own function) blocks in
       let told-all = counted _ menu out size told in

@@ -82,6 +82,8 @@ pub record NumbersAreToldApart : Type 0 where
   pub asksApart : (octets octets′ : List ℕ) (item item′ : ℕ) → askedCode (asked octets item) ≡ askedCode (asked octets′ item′) → askedCount (asked octets item) ≡ askedCount (asked octets′ item′)
       → asked octets item ≡ asked octets′ item′
   pub looked : (octets : List ℕ) (item : ℕ) (offered : Bool) (n : ℕ) → asked octets item ≡ answer offered n → between 1 64 n ≡ true
+  -- and both are told as they are
+  pub told : (octets : List ℕ) (item : ℕ) (offered : Bool) (n : ℕ) → asked octets item ≡ answer offered n → (askedCode (asked octets item) ≡ pos (when offered 1 0)) × (askedCount (asked octets item) ≡ n)
   -- `tailsprig_cm`: 4 to 64 octets, and 4 to 7 without blocks; `tailsprig_jm`: 1 to 64; `tailsprig_fields`: 0 to 38
   pub cmSize : (own : Record) (function : ℕ) (blocks out : List ℕ) (size : ℕ) → madeCm own function blocks out .answer ≡ count size → between 4 64 size ≡ true
   pub cmAlone : (own : Record) (function : ℕ) (out : List ℕ) (size : ℕ) → madeCm own function [] out .answer ≡ count size → between 4 7 size ≡ true
