@@ -1,4 +1,6 @@
 // The cadence: CI on and off, given out bit by bit, and what is left of it once an answer is heard.
+#![tactic(auto)]
+
 ghost use Rattle.std.specs.Prelude.{◌≡◌, ◌+◌, ◌%◌, ◌<◌, ◌≤◌, ltb, length};
 ghost use Rattle.laws.specs.Logic.{when};
 ghost use Rattle.laws.specs.Front.{front};
@@ -12,7 +14,7 @@ use refusals::{Refusal, Wrote};
 // bit stands, how many bits were given out, and the tone that ended it. As numbers, since a host in C holds it in its session;
 // docs/RANGES.md says what they may be.
 #[repr(C)]
-#[derive(Drop)]
+#[derive(Clone, Copy)]
 pub struct Cadence {
     pub off: u16,
     pub place: u16,
@@ -55,7 +57,7 @@ const CI_OF_0: u32 = 539493375;
 const FUNCTION_WEIGHT: u32 = 67108864;
 
 // What giving bits out answers, and the cadence behind them.
-#[derive(Drop)]
+#[derive(Clone, Copy)]
 pub struct Given {
     pub cadence: Cadence,
     pub answer: Wrote,

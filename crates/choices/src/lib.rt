@@ -1,4 +1,6 @@
 // Choices: what both ends go on with, from the menus of both.
+#![tactic(auto)]
+
 ghost use Rattle.std.specs.Prelude.{◌≡◌};
 ghost use Rattle.choices.specs.Choosing.{lowest, says_choice, pcm_choice, item_choice, chosen_from, choice_for, choice_of};
 
@@ -7,7 +9,7 @@ use menus::{Offer, ReadMenu};
 use refusals::Refusal;
 
 // What both ends go on with.
-#[derive(Drop)]
+#[derive(Clone, Copy)]
 pub enum Choice {
     Nothing,
     Mode(Item),

@@ -1,4 +1,6 @@
 // Codes: the answers of the library as the numbers that cross to C, and the numbers that C passes as what they ask for.
+#![tactic(auto)]
+
 ghost use Rattle.std.specs.Prelude.{◌≡◌, ◌%◌, ◌^◌, pos, neg_ℤ};
 ghost use Rattle.refusals.specs.Refusals.{number};
 ghost use Rattle.listening.specs.Hearing as hearing;
@@ -55,7 +57,7 @@ pub fn wrote_code(w: Wrote) -> i32
 }
 
 // A kind as a number asks for it.
-#[derive(Drop)]
+#[derive(Clone, Copy)]
 pub enum Asked {
     Known(Kind),
     Unknown,
@@ -99,7 +101,7 @@ pub fn span_code(span: LastSpan) -> i32
 }
 
 // The second part of a bit: the record behind it, and its report as a number.
-#[derive(Drop)]
+#[derive(Clone, Copy)]
 pub struct Acted {
     pub rec: Listener,
     pub code: i32,

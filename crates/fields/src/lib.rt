@@ -1,5 +1,7 @@
 // Makers' own fields: the octets of blocks, packed into the extension octets of a tag 15 group and back; the blocks one behind the
 // other; the field of a heard menu, read, and our own, written.
+#![tactic(auto)]
+
 ghost use Rattle.std.specs.Prelude.{◌≡◌, true, ◌+◌, ◌-◌, ◌<◌, ◌≤◌, ◌^◌, length, take, drop};
 ghost use Rattle.laws.specs.Front.{front};
 ghost use Rattle.laws.specs.Logic.{when};
@@ -24,7 +26,7 @@ const FULL: u8 = 255;
 const MOST_OCTETS: usize = 40;
 
 // What unpacking leaves: how many octets it wrote, and the bits left over.
-#[derive(Drop)]
+#[derive(Clone, Copy)]
 struct Unpacked {
     count: usize,
     left: u16,
@@ -79,7 +81,7 @@ fn extensions_for(octets: usize) -> usize
 }
 
 // What is between octets and extension octets: bits as a number, the weight of the next, and how many octets were taken in.
-#[derive(Drop)]
+#[derive(Clone, Copy)]
 struct Held {
     bits: u16,
     weight: u16,
@@ -132,7 +134,7 @@ fn pack(octets: &[u8], out: &mut [u8]) -> usize
 
 // A part of the lent octets: where it begins, and how many octets it has.
 #[repr(C)]
-#[derive(Drop)]
+#[derive(Clone, Copy)]
 pub struct Span {
     pub place: usize,
     pub size: usize,
@@ -140,7 +142,7 @@ pub struct Span {
 
 // A block: whole, with its length; its country code, its provider code, and the rest.
 #[repr(C)]
-#[derive(Drop)]
+#[derive(Clone, Copy)]
 pub struct Block {
     pub whole: Span,
     pub country: Span,
@@ -149,7 +151,7 @@ pub struct Block {
 }
 
 // What the walk over the blocks gives.
-#[derive(Drop)]
+#[derive(Clone, Copy)]
 pub enum Walk {
     Blocks(usize),
     Refused(Refusal),

@@ -1,4 +1,6 @@
 // The framing: the ear of a line, and what one bit does to it.
+#![tactic(auto)]
+
 ghost use Rattle.std.specs.Prelude.{◌≡◌, ◌<◌};
 ghost use Rattle.refusals.specs.Refusals.{number};
 ghost use Rattle.framing.specs.Ranges.{ear_in_range};
@@ -8,7 +10,7 @@ use refusals::Refusal;
 
 // What was heard last: the newest bit on top, how many bits were heard up to 30, and where in the framing the next bit is.
 #[repr(C)]
-#[derive(Drop)]
+#[derive(Clone, Copy)]
 pub struct Ear {
     pub past: u32,
     pub heard: u32,
@@ -82,14 +84,14 @@ pub const TOP_TEN: u32 = 4194304;
 const TOP_NINE: u32 = 8388608;
 
 // The next place in the framing, and the act.
-#[derive(Drop)]
+#[derive(Clone, Copy)]
 struct Placed {
     place: u32,
     act: u32,
 }
 
 // The ear once it is turned, and the act.
-#[derive(Drop)]
+#[derive(Clone, Copy)]
 pub struct Turned {
     pub ear: Ear,
     pub act: u32,

@@ -1,5 +1,5 @@
--- Laws about the places of items: the formula of the code gives them, item by item; the octets that say a set, and the set that is read back
--- from them, computed octet by octet.
+-- Laws about the places of items: the table that the code holds gives them, entry by entry; the octets that say a set, and the set that is read
+-- back from them, computed octet by octet.
 -- Assumes nothing.
 use Prim.Native.Nat.{ℕ, ◌<◌, ◌≤◌, ◌+◌, ◌*◌, ◌%◌, ◌/◌}
 use mathlib.Core.Path.{◌≡◌, sym, ap, ◌∙◌}
@@ -19,28 +19,27 @@ use Rattle.items.specs.declared.ModePlace.{ModePlace}
 use Rattle.items.specs.declared.ModePlace.TheVariants.{At, Nowhere}
 use Rattle.items.specs.Items.{places, place_of, is_mode, mode_place, bit_of, has_item, set_of, items_of, item_bits, modulation, no_items, modulation_octet}
 
--- the formula of the code gives the places, item by item
+-- the table of the code: 8 for each octet before it, and the bit
+abbrev pub table : List ℕ
+table = 5 ∷ 6 ∷ 7 ∷ 8 ∷ 9 ∷ 10 ∷ 14 ∷ 15 ∷ 16 ∷ 17 ∷ 18 ∷ 22 ∷ 23 ∷ []
+
 abbrev made : ℕ → ℕ → ItemPlace
 made octet bit = record { octet = octet; bit = record { 0 = bit } }
 
-abbrev agrees : ℕ → ℕ → ℕ → Bool
-agrees octet bit i = both (eqb octet (place_of i).octet) (eqb bit (place_of i).bit.0)
-
-same_place : (octet bit i : ℕ) → T (agrees octet bit i) → made octet bit ≡ place_of i
-same_place octet bit i t =
-    let octets = eqb→eq octet (place_of i).octet (both_left _ _ t) in
-    let bits = eqb→eq bit (place_of i).bit.0 (both_right (eqb octet (place_of i).octet) _ t) in
-    ap (λ (n : ℕ). made n bit) octets ∙ ap (λ (n : ℕ). made (place_of i).octet n) bits
-
-pub category_place : (i : ℕ) → i < 3 → made 0 (5 + i) ≡ place_of i
-unfolding places place_of all_below both
-category_place i h = same_place 0 (5 + i) i (below (λ (k : ℕ). agrees 0 (5 + k) k) 3 tt i h)
-
-pub extension_place : (k : ℕ) → k < 10 → made (1 + k / 5) (k % 5 + 3 * (k % 5 / 3)) ≡ place_of (k + 3)
-unfolding places place_of all_below both
-extension_place k h = same_place (1 + k / 5) (k % 5 + 3 * (k % 5 / 3)) (k + 3) (below (λ (j : ℕ). agrees (1 + j / 5) (j % 5 + 3 * (j % 5 / 3)) (j + 3)) 10 tt k h)
+abbrev agrees : ℕ → Bool
+agrees i = both (eqb (get_or table i 0 / 8) (place_of i).octet) (eqb (get_or table i 0 % 8) (place_of i).bit.0)
 
 module _ (i : ℕ) (h : i < 13) where
+  entry : T (agrees i)
+  unfolding places place_of all_below both
+  entry = below agrees 13 tt i h
+
+  pub place_at : ◌≡◌ {A = ItemPlace} (record { octet = get_or table i 0 / 8; bit = record { 0 = get_or table i 0 % 8 } }) (place_of i)
+  place_at =
+      let octet = eqb→eq (get_or table i 0 / 8) (place_of i).octet (both_left _ _ entry) in
+      let bit = eqb→eq (get_or table i 0 % 8) (place_of i).bit.0 (both_right (eqb (get_or table i 0 / 8) (place_of i).octet) _ entry) in
+      ap (λ (n : ℕ). made n (get_or table i 0 % 8)) octet ∙ ap (λ (n : ℕ). made (place_of i).octet n) bit
+
   -- a bit number is one of an octet's
   pub place_bit : (place_of i).bit.0 < 8
   unfolding places place_of all_below both
@@ -120,24 +119,6 @@ module _ (items : ℕ) where
   pub octet_past : (octet : ℕ) → 2 < octet → modulation_octet items octet ≡ no_items
   unfolding places place_of item_bits modulation_octet when
   octet_past octet h = simp (ne_eqb octet 0 (λ e. omega (arith, e, h)), ne_eqb 0 octet (λ e. omega (arith, e, h)), ne_eqb 1 octet (λ e. omega (arith, e, h)), ne_eqb 2 octet (λ e. omega (arith, e, h)))
-
--- each is an octet, and so is what the first items make of it
-pub item_octet_small : (items octet : ℕ) → modulation_octet items octet < 256
-item_octet_small items zero = omega (arith, octet_0 items)
-item_octet_small items (suc zero) = omega (arith, octet_1 items)
-item_octet_small items (suc (suc zero)) = omega (arith, octet_2 items)
-item_octet_small items (suc (suc (suc octet))) = omega (arith, octet_past items (suc (suc (suc octet))) (omega arith))
-
-module _ (items octet : ℕ) where
-  bits_within : (n most : ℕ) → n ≤ most → item_bits items octet n ≤ item_bits items octet most
-  unfolding item_bits
-  bits_within n zero h = let none : n ≡ 0 = omega (arith, h) in rw none (omega arith)
-  bits_within n (suc most) h =
-      ⊎_elim (λ e. rw e (omega arith)) (λ l. omega (arith, bits_within n most (le_of_suc-le-suc l))) (eq-or-lt_of_le h)
-
-  pub first_bits_small : (n : ℕ) → n ≤ 13 → when (eqb octet 0) modulation no_items + item_bits items octet n < 256
-  unfolding modulation_octet
-  first_bits_small n h = omega (arith, item_octet_small items octet, bits_within n 13 h)
 
 -- the items of a set are read from its octets, octet by octet: three in the first, and five in each other, by the lowest item's weight
 abbrev said : ℕ → ℕ → ℕ → ℕ

@@ -1,7 +1,9 @@
 // Items: where they stand in the modulation group, and sets of them as numbers.
+#![tactic(auto)]
+
 ghost use Rattle.std.specs.Prelude.{◌≡◌, ◌+◌, ◌*◌, ◌/◌, ◌%◌, ◌<◌, ◌≤◌, eqb};
 ghost use Rattle.laws.specs.Logic.{when};
-ghost use Rattle.items.specs.Items.{place_of, is_mode, mode_place, bit_of, has_item, items_of, in_set, item_bits, modulation, no_items, modulation_octet};
+ghost use Rattle.items.specs.Items.{place_of, is_mode, mode_place, bit_of, has_item, items_of, in_set, no_items, modulation_octet};
 
 // The tag of the modulation group.
 pub const MODULATION: u8 = 5;
@@ -18,43 +20,38 @@ const LAST_MODE: u8 = 12;
 const NO_ITEMS: u8 = 16;
 
 // An item of the modulation group, and a bit of an octet: one cannot be passed where the other belongs.
-#[derive(Drop)]
+#[derive(Clone, Copy)]
 pub struct Item(pub u8);
 
-#[derive(Drop)]
+#[derive(Clone, Copy)]
 pub struct Bit(pub u8);
 
 // Where an item stands in the modulation group: in which of its octets, and in which bit of that.
-#[derive(Drop)]
+#[derive(Clone, Copy)]
 pub struct ItemPlace {
     pub octet: u8,
     pub bit: Bit,
 }
 
 // Where a mode stands; an item that is none stands nowhere.
-#[derive(Drop)]
+#[derive(Clone, Copy)]
 pub enum ModePlace {
     At(ItemPlace),
     Nowhere,
 }
 
-// Three items in the category octet, b5, b6 and b7; then five in each extension octet, b0, b1, b2, b6 and b7, where the three bits between
-// say what the octet is.
+// The places of items 0 to 12: 8 for each octet before it, and the bit.
+const PLACES: [u8; 13] = [5, 6, 7, 8, 9, 10, 14, 15, 16, 17, 18, 22, 23];
+
 fn place_of(item: Item) -> ItemPlace
     requires { item.0 < 13 }
     ensures { result ≡ place_of item.0 }
 {
-    if item.0 < 3 {
-        return ItemPlace {
-            octet: 0,
-            bit: Bit(5 + item.0),
-        };
-    }
-    let further = item.0 - 3;
-    let n = further % 5;
+    let i = item.0 as usize;
+    let place = PLACES[i];
     ItemPlace {
-        octet: 1 + further / 5,
-        bit: Bit(n + 3 * (n / 3)),
+        octet: place / 8,
+        bit: Bit(place % 8),
     }
 }
 
@@ -123,37 +120,25 @@ pub fn in_set(items: u16, item: Item) -> bool
     item.0 < 16 && (items >> item.0) % 2 == 1
 }
 
-// An octet of the modulation group without items.
-fn bare_octet(octet: u8) -> u8
-    ensures { result ≡ when (eqb octet 0) modulation no_items }
+// An extension octet with its five bits for items: b0, b1, b2, b6, b7.
+fn extension_octet(five: u16) -> u8
+    ensures { result ≡ no_items + five % 8 + 64 * (five / 8 % 4) }
 {
-    if octet == 0 {
-        return MODULATION;
-    }
-    NO_ITEMS
-}
-
-// The bit by which an octet of the group says an item: 0 where the item stands in another octet, or is not in the set.
-fn item_bit(items: u16, octet: u8, item: Item) -> u8
-    requires { item.0 < 13 }
-    ensures { item_bits items octet item.0 + result ≡ item_bits items octet (item.0 + 1) }
-{
-    let place = place_of(item);
-    if place.octet == octet {
-        return ((items >> item.0) % 2) as u8 << place.bit.0;
-    }
-    0
+    NO_ITEMS + (five % 8) as u8 + 64 * ((five / 8 % 4) as u8)
 }
 
 // An octet of the modulation group that says these items.
 pub fn modulation_octet(items: u16, octet: u8) -> u8
     ensures { result ≡ modulation_octet items octet }
 {
-    let mut said = bare_octet(octet);
-    let mut item: u8 = 0;
-    while item < ITEMS {
-        said += item_bit(items, octet, Item(item));
-        item += 1;
+    if octet == 0 {
+        return MODULATION + 32 * ((items % 8) as u8);
     }
-    said
+    if octet == 1 {
+        return extension_octet(items / 8);
+    }
+    if octet == 2 {
+        return extension_octet(items / 256);
+    }
+    NO_ITEMS
 }

@@ -1,1 +1,2 @@
 // Definitions and laws that every layer cites; no code.
+#![tactic(auto)]

@@ -2,6 +2,8 @@
 //
 // Most bits ask for nothing, and the framing does not have to be asked about each. Of a bit that goes by while hunting two tests
 // are enough; and ten bits together, behind a 1, are known for an octet, for the end of a message or for a menu sync.
+#![tactic(auto)]
+
 ghost use Rattle.std.specs.Prelude.{ℕ, ◌<◌, ◌≡◌, true, drop};
 ghost use Rattle.octets.specs.declared.Kind.TheVariants.{Menu};
 ghost use Rattle.sequences.specs.Line.{sync};
@@ -21,21 +23,21 @@ const TOP_ELEVEN: u32 = 2097152;
 const FRAMED_0: u32 = 512;
 
 // The ear behind the bits that were heard, what the last of them asks for, 0 where that is nothing, and where the next bit is.
-#[derive(Drop)]
+#[derive(Clone, Copy)]
 pub struct Advanced {
     pub ear: Ear,
     pub act: u32,
     pub at: usize,
 }
 
-#[derive(Drop)]
+#[derive(Clone, Copy)]
 struct Passed {
     past: u32,
     at: usize,
 }
 
 // Whether ten bits stand somewhere, and the number that they make, the first lowest.
-#[derive(Drop)]
+#[derive(Clone, Copy)]
 struct Ten {
     whole: bool,
     number: u32,

@@ -2,6 +2,8 @@
 //
 // The record is large and a bit touches little of it. So a bit has two parts: `turn_ear` needs the ear and four numbers, and says what
 // is to be done; `act_on` does that to the messages, and `tell` says what it tells. Whoever hears a bit goes through these.
+#![tactic(auto)]
+
 ghost use Rattle.std.specs.Prelude.{◌≡◌, take};
 ghost use Rattle.listening.specs.Record.{message_in_range, parts_in_range, in_range, empty, fresh};
 ghost use Rattle.listening.specs.Hearing.{says_heard, started, stored, changed, agreed, span_of, reported, told_alone, told, messages_after, listener_of, heard_bit, ear_turned, listened, heard_bits, Hears, HearsMany};
@@ -12,7 +14,7 @@ use refusals::Refusal;
 
 // A message: 1 for CI, 2 for a menu, 0 for none; how many octets it has; and these.
 #[repr(C)]
-#[derive(Drop)]
+#[derive(Clone, Copy)]
 pub struct Message {
     pub kind: u8,
     pub len: u8,
@@ -21,7 +23,7 @@ pub struct Message {
 
 // The record of a line: the ear, the message being heard or heard last, and the message reported last.
 #[repr(C)]
-#[derive(Drop)]
+#[derive(Clone, Copy)]
 pub struct Listener {
     pub ear: Ear,
     pub msg: Message,
@@ -30,7 +32,7 @@ pub struct Listener {
 
 // What a bit reports. A message carries its span, the number of bits from the first of its sync to the one that reports it, both counted;
 // behind it a menu says whether it is agreed. With that in front a record of many bits would be copied once more.
-#[derive(Drop)]
+#[derive(Clone, Copy)]
 pub enum Heard {
     Nothing,
     Ci(u16),
@@ -40,7 +42,7 @@ pub enum Heard {
 }
 
 // The span of the message reported last.
-#[derive(Drop)]
+#[derive(Clone, Copy)]
 pub enum LastSpan {
     Nothing,
     Bits(u16),
@@ -48,21 +50,21 @@ pub enum LastSpan {
 }
 
 // The message being heard or heard last, and the message reported last.
-#[derive(Drop)]
+#[derive(Clone, Copy)]
 pub struct Messages {
     pub msg: Message,
     pub last: Message,
 }
 
 // A bit: the record behind it, and what it reports.
-#[derive(Drop)]
+#[derive(Clone, Copy)]
 pub struct BitHeard {
     pub rec: Listener,
     pub report: Heard,
 }
 
 // Many bits: how many were taken, and what the last of them reported.
-#[derive(Drop)]
+#[derive(Clone, Copy)]
 pub struct BitsHeard {
     pub rec: Listener,
     pub taken: usize,

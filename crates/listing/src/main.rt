@@ -1,5 +1,7 @@
 // Lists what is heard in the characters 0 and 1 of standard input, a line for each report, as document 01 lays down at the end
 // of 'Worked values'. Input is read in blocks, and what a block reports is gathered and written at once.
+#![tactic(auto)]
+
 ghost use Rattle.std.specs.Prelude.{◌≤◌, length};
 ghost use Rattle.listening.proofs.Ranges.{Fits};
 
@@ -12,7 +14,7 @@ use printing::{put_decimal, put_octet, put_text};
 const LINE_ROOM: usize = 256;
 
 // The line's record, how many bits were heard, and whether more may come.
-#[derive(Drop)]
+#[derive(Clone, Copy)]
 struct State {
     rec: Listener,
     bits: u64,

@@ -1,4 +1,6 @@
 // Menus: looking for a group, its part of the message, what a menu offers, one item asked for alone, and which PCM options of two ends pair.
+#![tactic(auto)]
+
 ghost use Rattle.std.specs.Prelude.{◌≡◌, ◌+◌, ◌≤◌, length, drop};
 ghost use Rattle.octets.specs.Lists.{until_category};
 ghost use Rattle.menus.specs.Groups.{says_found, opens_group, first_group, looked, part_at, onward, part_start, group_of, options_in};
@@ -22,14 +24,14 @@ pub const ACCESS: u8 = 13;
 pub const LAPM: u8 = 1;
 
 // Where a group stands in a message that can be read.
-#[derive(Drop)]
+#[derive(Clone, Copy)]
 enum Spot {
     At(usize),
     Nowhere,
 }
 
 // What looking for a tag finds.
-#[derive(Drop)]
+#[derive(Clone, Copy)]
 pub enum Found {
     At(usize),
     Nothing,
@@ -39,7 +41,7 @@ pub enum Found {
 // What a menu offers: the call function, the items (bit i for item i), PCM as far as it counts, LAPM, and the access group with its
 // options.
 #[repr(C)]
-#[derive(Drop)]
+#[derive(Clone, Copy)]
 pub struct Offer {
     pub function: u8,
     pub items: u16,
@@ -50,14 +52,14 @@ pub struct Offer {
 }
 
 // What reading a menu gives.
-#[derive(Drop)]
+#[derive(Clone, Copy)]
 pub enum ReadMenu {
     Offers(Offer),
     Refused(Refusal),
 }
 
 // What asking for one item gives: whether the menu offers it, and how many octets were looked at.
-#[derive(Drop)]
+#[derive(Clone, Copy)]
 pub enum AskedItem {
     Answer(bool, usize),
     Refused(Refusal),

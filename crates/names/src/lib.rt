@@ -1,4 +1,6 @@
 // Names: the words for ends, functions, modulations and options, as document 01 and the header have them, and what each names.
+#![tactic(auto)]
+
 ghost use Rattle.std.specs.Prelude.{◌≡◌, ◌≤◌, length, get_or};
 ghost use Rattle.printing.specs.Page.{page, typed};
 ghost use Rattle.names.specs.Names.{lower, same_letters, names, named, names_of};
@@ -30,7 +32,7 @@ pub const QUALITY: u8 = 8;
 pub const ACCESS: u8 = 9;
 
 // What a word names: its kind, and which of that kind.
-#[derive(Drop)]
+#[derive(Clone, Copy)]
 pub struct Meaning {
     pub kind: u8,
     pub number: u8,

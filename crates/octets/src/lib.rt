@@ -1,4 +1,6 @@
 // The bits of an octet, the kinds of octets, and the tests of an octet list.
+#![tactic(auto)]
+
 ghost use Rattle.std.specs.Prelude.{◌≡◌, ◌+◌, drop};
 ghost use Rattle.laws.specs.Tests.{same_list};
 ghost use Rattle.refusals.specs.Refusals.{fault};
@@ -14,14 +16,14 @@ pub const CALL_FUNCTION: u8 = 1;
 pub const MOST_OCTETS: usize = 64;
 
 // The two kinds of messages with a preamble.
-#[derive(Drop)]
+#[derive(Clone, Copy)]
 pub enum Kind {
     Ci,
     Menu,
 }
 
 // What an octet list is tested for.
-#[derive(Drop)]
+#[derive(Clone, Copy)]
 pub enum Purpose {
     Reading,
     Writing(Kind),

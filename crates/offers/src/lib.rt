@@ -1,4 +1,6 @@
 // Menus we make: what CM and JM offer, both as octets, and the call function octet.
+#![tactic(auto)]
+
 ghost use Rattle.std.specs.Prelude.{◌≡◌, true, false, [], ◌<◌, ◌≤◌, length, take, get_or};
 ghost use Rattle.laws.specs.Logic.{when};
 ghost use Rattle.refusals.specs.Lent.{Meets};
@@ -28,7 +30,7 @@ const LONGEST_MENU: usize = 7;
 const MOST_OCTETS: usize = 64;
 
 // Where the call function octet of a JM stands: in the heard CM, in our own one, or nowhere.
-#[derive(Drop)]
+#[derive(Clone, Copy)]
 pub enum Source {
     Neither,
     Heard,

@@ -14,6 +14,8 @@
 //     caller    sends C1 45
 //
 // Words stand apart by blanks, tabs and commas, in upper or lower case; # begins a comment. The lines may come in any order.
+#![tactic(auto)]
+
 ghost use Rattle.std.specs.Prelude.{◌≡◌, ◌+◌, ◌-◌, ◌%◌, ◌<◌, ◌≤◌, length, take, drop, set, ◌==◌, slice_index};
 ghost use Rattle.laws.specs.Logic.{when, both};
 ghost use Rattle.laws.specs.Front.{front};
@@ -184,7 +186,7 @@ const ENTRIES_A_LINE: usize = 16;
 // A call: what is said of both ends, the function of the caller or STRANGER, Te, how many sequences CI is on and bit times off, and when the
 // answerer answers. Of each end there are eight sets, the caller's first: what it wants and what its line is; each function's modes, with 0
 // in the set where the end has it; and last, as a number, its home function.
-#[derive(Drop)]
+#[derive(Clone, Copy)]
 pub struct Plan {
     pub sets: [u16; 16],
     pub function: u8,
@@ -195,7 +197,7 @@ pub struct Plan {
 }
 
 // A plan; or, where `what` is not 0, the first mistake of a text and its place.
-#[derive(Drop)]
+#[derive(Clone, Copy)]
 pub struct Answer {
     pub plan: Plan,
     pub what: u8,
@@ -204,7 +206,7 @@ pub struct Answer {
 
 // A text, read up to a byte: what is planned; of its line the end that it is about, the last function that it names, to which modes belong,
 // and the first; what may come next; and a mistake or 0.
-#[derive(Drop)]
+#[derive(Clone, Copy)]
 struct Reading {
     plan: Plan,
     end: u8,
@@ -1069,7 +1071,7 @@ const BLOCKS_BLANK: usize = 48;
 const PIECES: u8 = 9;
 
 // A piece of the plain form: the names of a kind whose numbers are in a set, after them more of another kind, and a part of TEXTS.
-#[derive(Drop)]
+#[derive(Clone, Copy)]
 struct Piece {
     kind: u8,
     set: u16,

@@ -1,5 +1,7 @@
 // Printing on a page that is lent: a buffer, and the place of the next byte in it. Each function writes from that place on, answers the
 // place behind what it wrote, and leaves out what has no room.
+#![tactic(auto)]
+
 ghost use Rattle.std.specs.Prelude.{◌≤◌, ◌≡◌};
 ghost use Rattle.printing.specs.Page.{page, struck, typed, hex_digit, hex_octet, TypedDecimal};
 

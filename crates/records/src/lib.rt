@@ -1,4 +1,6 @@
 // Records: what an end can do, the test of a record, and the set in use for a function.
+#![tactic(auto)]
+
 ghost use Rattle.std.specs.Prelude.{◌≡◌};
 ghost use Rattle.records.specs.Record.{no_modes, outside, lacks_item_1, bad_modes, bad_flags, in_use, bad_record};
 
@@ -14,7 +16,7 @@ const ALL_OPTIONS: u8 = 7;
 // What an end has for one call function: 1 where it is available, otherwise 0; items as a set, bit i for item i; PCM options with b5
 // lowest.
 #[repr(C)]
-#[derive(Drop)]
+#[derive(Clone, Copy)]
 pub struct Modes {
     pub available: u8,
     pub pcm: u8,
@@ -23,7 +25,7 @@ pub struct Modes {
 
 // What an end can do: functions 1 to 6 in turn, the home function, what is wanted, and what the line is; 1 for yes, 0 for no.
 #[repr(C)]
-#[derive(Drop)]
+#[derive(Clone, Copy)]
 pub struct Record {
     pub functions: [Modes; 6],
     pub home: u8,

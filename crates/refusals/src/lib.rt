@@ -1,9 +1,11 @@
 // Refusals: what is refused, with its number, and what a call that writes answers.
+#![tactic(auto)]
+
 ghost use Rattle.std.specs.Prelude.{◌≡◌};
 ghost use Rattle.refusals.specs.Refusals.{number};
 
 // What document 01 and the requests refuse, in the order of the numbers.
-#[derive(Drop)]
+#[derive(Clone, Copy)]
 pub enum Refusal {
     NotABit,
     StopBitZero,
@@ -24,14 +26,14 @@ pub enum Refusal {
 }
 
 // What a test says.
-#[derive(Drop)]
+#[derive(Clone, Copy)]
 pub enum Verdict {
     Accepted,
     Refused(Refusal),
 }
 
 // What a call that writes into a lent buffer answers: how many were written, bits or octets, or why nothing was.
-#[derive(Drop)]
+#[derive(Clone, Copy)]
 pub enum Wrote {
     Count(usize),
     Refused(Refusal),

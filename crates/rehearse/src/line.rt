@@ -24,7 +24,7 @@ const LAST_OF_CJ: usize = 689;
 const IDLE: usize = 690;
 
 // A menu that was made, and how many octets it has.
-#[derive(Drop)]
+#[derive(Clone, Copy)]
 pub struct Made {
     pub octets: [u8; MOST_OCTETS],
     pub len: usize,
@@ -33,7 +33,7 @@ pub struct Made {
 // What a host keeps for each line: what is planned; the CM or JM of this end; one copy of it, CJ and a 1, a byte for each bit; how many bits the
 // copy has, and how many of what is sent are on the line; the bit that is sent now, or silence; the last report, and the octet of a CI that it
 // told; whether this end is on the line.
-#[derive(Drop)]
+#[derive(Clone, Copy)]
 pub struct Line {
     pub plan: Plan,
     pub session: Session,

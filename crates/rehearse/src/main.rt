@@ -2,6 +2,8 @@
 // of the call: when each end enters which state, what it sends and hears, with CI once for each on period, and what it goes on with. What
 // is wrong with a text, with its blocks or with a CM that it gives is told in one line, and nothing is rehearsed; where there is no text,
 // what one looks like.
+#![tactic(auto)]
+
 mod ladder;
 mod line;
 mod words;
@@ -62,7 +64,7 @@ fn arriving(bit: u8, damaged: &[u8], place: usize) -> u8 {
 }
 
 // Both ends of the line.
-#[derive(Drop)]
+#[derive(Clone, Copy)]
 struct Ends {
     caller: Line,
     answerer: Line,

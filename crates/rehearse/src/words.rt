@@ -6,7 +6,7 @@ use std::num::wrapping_add_u8;
 pub const ROOM: usize = 640;
 
 // A text: its bytes, and blanks behind them.
-#[derive(Drop)]
+#[derive(Clone, Copy)]
 pub struct Text {
     pub bytes: [u8; ROOM],
     pub len: usize,

@@ -1,4 +1,6 @@
 // Bits on the line: sequences, copies of them, and CJ, written into a lent buffer of bytes that are 0 or 1.
+#![tactic(auto)]
+
 ghost use Rattle.std.specs.Prelude.{◌≡◌, ◌+◌, ◌*◌, ◌<◌, ◌≤◌, length, get_or};
 ghost use Rattle.laws.specs.Front.{front};
 ghost use Rattle.refusals.specs.Lent.{Meets};

@@ -1,6 +1,8 @@
 // Steps: the session of an end, how it starts, what an event changes in it, and the bits that a caller gives out.
 //
 // One constant table, by state and event, is the rule. A step tests the session, the event and the clock, and looks up the row.
+#![tactic(auto)]
+
 ghost use Rattle.std.specs.Prelude.{◌≡◌, ◌≤◌, drop};
 ghost use Rattle.laws.specs.Logic.{both};
 ghost use Rattle.refusals.specs.Refusals.{number};
@@ -17,7 +19,7 @@ use refusals::{Refusal, Wrote};
 // What an end keeps of its call, as numbers, since a host in C holds it; docs/RANGES.md says what they may be. The time of the
 // start or of the last change of state, Te, the cadence of CI, which end this is, its state, the choice, and how the session ended.
 #[repr(C)]
-#[derive(Drop)]
+#[derive(Clone, Copy)]
 pub struct Session {
     pub entry: u32,
     pub te: u32,
@@ -110,12 +112,12 @@ const BEHIND_ANSAM: u8 = 7;
 const BEHIND_ANS: u8 = 8;
 
 // Where a row leads to: the next state, and how the session ended. One that leads to its own state remembers its event, a tone.
-#[derive(Drop)]
+#[derive(Clone, Copy)]
 struct To(u8, u8);
 
 // In this state, at this event, with so many milliseconds elapsed, where this condition holds. What it leads to stands first: the
 // compiler then has no need to keep the table in memory (docs/SPEED.md).
-#[derive(Drop)]
+#[derive(Clone, Copy)]
 struct Row {
     to: To,
     state: u8,
@@ -321,7 +323,7 @@ pub const DEFAULT_TE: u32 = 1000;
 const HALF_RANGE: u32 = 2147483648;
 
 // What looking a row up finds.
-#[derive(Drop)]
+#[derive(Clone, Copy)]
 enum RowFound {
     At(To),
     Nothing,
@@ -329,7 +331,7 @@ enum RowFound {
 
 // What an event is answered: nothing changed, a state was entered, the session ended in this way or goes on with this choice, or a
 // refusal.
-#[derive(Drop)]
+#[derive(Clone, Copy)]
 pub enum Answer {
     Same,
     Entered(u8),
@@ -338,21 +340,21 @@ pub enum Answer {
     Refused(Refusal),
 }
 
-#[derive(Drop)]
+#[derive(Clone, Copy)]
 pub struct Stepped {
     pub session: Session,
     pub answer: Answer,
 }
 
 // What asking for bits leaves: the session, and how many bits came.
-#[derive(Drop)]
+#[derive(Clone, Copy)]
 pub struct Drawn {
     pub session: Session,
     pub answer: Wrote,
 }
 
 // A caller's start.
-#[derive(Drop)]
+#[derive(Clone, Copy)]
 pub enum Started {
     Ready(Session),
     Refused(Refusal),

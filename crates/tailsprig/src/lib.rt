@@ -1,4 +1,6 @@
 // The library as a C program sees it: numbers, byte slices, and a refusal n as the answer -n. include/tailsprig.h is its manual.
+#![tactic(auto)]
+
 ghost use Rattle.std.specs.Prelude.{◌≡◌, length};
 ghost use Rattle.listening.specs.Record.{fresh};
 ghost use Rattle.listening.specs.Hearing.{says_heard, heard_bit, heard_bits};
@@ -51,7 +53,7 @@ pub extern "C" fn tailsprig_write_cj(out: &mut [u8]) -> i32
 
 // Many bits, as C gets them.
 #[repr(C)]
-#[derive(Drop)]
+#[derive(Clone, Copy)]
 pub struct Ran {
     pub rec: Listener,
     pub taken: usize,
@@ -120,7 +122,7 @@ pub extern "C" fn tailsprig_last_span(rec: Listener) -> i32
 
 // A menu as C gets it: 0 and what it offers, or a refusal and nothing.
 #[repr(C)]
-#[derive(Drop)]
+#[derive(Clone, Copy)]
 pub struct MenuRead {
     pub offer: Offer,
     pub code: i32,
@@ -163,7 +165,7 @@ pub extern "C" fn tailsprig_read(octets: &[u8]) -> MenuRead
 
 // An item that is asked for, as C gets it: 1 or 0 and how many octets were looked at, or a refusal and none.
 #[repr(C)]
-#[derive(Drop)]
+#[derive(Clone, Copy)]
 pub struct ItemAsked {
     pub looked: usize,
     pub code: i32,
@@ -197,7 +199,7 @@ pub extern "C" fn tailsprig_fields(octets: &[u8], out: &mut [u8]) -> i32
 
 // Blocks as C gets them: 0 and how many there are, or a refusal and none.
 #[repr(C)]
-#[derive(Drop)]
+#[derive(Clone, Copy)]
 pub struct BlocksRead {
     pub blocks: usize,
     pub code: i32,
@@ -268,7 +270,7 @@ pub extern "C" fn tailsprig_choice(cm: &[u8], jm: &[u8]) -> i32
 
 // A start as C gets it: 0 and the session, or a refusal and none.
 #[repr(C)]
-#[derive(Drop)]
+#[derive(Clone, Copy)]
 pub struct CallerStart {
     pub session: Session,
     pub code: i32,
@@ -276,7 +278,7 @@ pub struct CallerStart {
 
 // A step as C gets it: the session, and the answer as one number.
 #[repr(C)]
-#[derive(Drop)]
+#[derive(Clone, Copy)]
 pub struct StepTaken {
     pub session: Session,
     pub code: i32,
@@ -284,7 +286,7 @@ pub struct StepTaken {
 
 // Bits as C gets them: 0, how many came, and the session behind them, or a refusal and none.
 #[repr(C)]
-#[derive(Drop)]
+#[derive(Clone, Copy)]
 pub struct BitsDrawn {
     pub session: Session,
     pub bits: usize,

@@ -1,0 +1,32 @@
+-- `menus::ask_at` meets its contract: the number of octets decides, then the first octet, then the walk behind it.
+-- Assumes nothing.
+use native.Mathlib.Omega.{arith}
+use mathlib.Core.Logic.{⊎_elim}
+use mathlib.Core.Path.{◌≡◌, sym, ◌∙◌}
+use mathlib.Core.Bool.{false}
+use borrow.Author.Tests.{lt-ltb, le-ltb}
+use Rattle.laws.specs.Logic.{when}
+use Rattle.octets.specs.Lists.{opens}
+use Rattle.octets.proofs.Lists.{opens_none, opens_some}
+use Rattle.menus.proofs.ask_at.Goals as goal
+
+pub returns-then-octets-gt-MOST_OCTETS : goal.returns-then-octets-gt-MOST_OCTETS
+unfolding when
+returns-then-octets-gt-MOST_OCTETS c = simp (lt-ltb _ _ c.if-octets-gt-MOST_OCTETS.true)
+
+pub returns-then-opens_group : goal.returns-then-opens_group
+unfolding when
+returns-then-opens_group c =
+    let octets = c.args.octets.now in
+    let opened = opens_some octets c.if-octets-gt0.true ∙ sym c.opens_group.ensures ∙ c.if-opens_group.true in
+    simp (c.walk.ensures, opened, le-ltb _ _ c.if-octets-gt-MOST_OCTETS.false)
+
+pub returns : goal.returns
+unfolding when
+returns c =
+    let octets = c.args.octets.now in
+    let unopened : opens octets ≡ false =
+    ⊎_elim (λ other. opens_some octets other.0.taken ∙ sym other.2.ensures ∙ other.3.left)
+    (λ none. opens_none octets (omega (arith, none.left)))
+    c.else-octets-gt0.branch in
+    simp (unopened, le-ltb _ _ c.if-octets-gt-MOST_OCTETS.false)

@@ -1,0 +1,22 @@
+-- `menus::part` meets its contract: whether the place is in the message decides, then whether a category octet stands there.
+-- Assumes nothing.
+use mathlib.Core.Logic.{⊎_elim}
+use mathlib.Core.Path.{◌≡◌, sym, ◌∙◌}
+use Rattle.menus.proofs.Looking.{part_here, part_not, part_past, start_here, start_none, stands_onward}
+use Rattle.menus.specs.Groups.{part_at}
+use borrow.Author.Rules.{rules}
+use Rattle.menus.proofs.part.Goals as goal
+
+pub returns-then-is_category : goal.returns-then-is_category
+returns-then-is_category c =
+    let args = c.args in
+    let is-category = sym c.is_category.ensures ∙ c.if-is_category.true in record { result_value = part_here args.octets.now args.place (search rules) is-category c.group_end-end.result c.group_end-end.ensures.0; ref_ptr_value = stands_onward args.octets.ref_ptr args.place _ (start_here args.octets.now args.place (search rules) is-category) }
+
+pub returns : goal.returns
+returns c =
+    let args = c.args in
+    let none : part_at args.octets.now args.place ≡ [] =
+    ⊎_elim (λ no-category. part_not args.octets.now args.place no-category.0.taken (sym no-category.2.ensures ∙ no-category.3.left))
+    (λ past. part_past args.octets.now args.place past.left)
+    c.else-place-octets.branch in
+    record { result_value = sym none; ref_ptr_value = stands_onward args.octets.ref_ptr 0 _ (start_none args.octets.now args.place none) }
