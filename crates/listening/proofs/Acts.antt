@@ -6,7 +6,6 @@ use mathlib.Core.Path.{◌≡◌, refl, ap}
 use mathlib.Core.Bool.{Bool, true, false}
 use borrow.Author.Tests.{lt-ltb, eq-eqb, ne_eqb}
 use Rattle.laws.specs.Logic.{when}
-use Rattle.framing.specs.declared.Turned.{Turned}
 use Rattle.framing.specs.Framing.{octet_of, start_ci, start_menu, store, report, refusal_act, refusal_in, stay, turned_by}
 use Rattle.listening.specs.declared.Message.{Message}
 use Rattle.listening.specs.declared.Listener.{Listener}

@@ -21,7 +21,7 @@ use Rattle.leaps.proofs.Steps.{advanced_end, advanced_on, advanced_asked}
 use Rattle.listening.specs.declared.Message.{Message}
 use Rattle.listening.specs.declared.Listener.{Listener}
 use Rattle.listening.specs.declared.Messages.{Messages}
-use Rattle.listening.specs.Hearing.{Told, silence, ci, menu, cj, refusal, HearOutcome, ManyOutcome, taking, listener_of, changed, agreed, reported, told, told_alone, acted, heard_in, silent, listened, heard_bits}
+use Rattle.listening.specs.Hearing.{Told, silence, ci, menu, cj, refusal, ManyOutcome, taking, listener_of, changed, agreed, reported, told, told_alone, acted, heard_in, silent, listened, heard_bits}
 use Rattle.listening.proofs.Acts.{messages_other}
 use Rattle.listening.proofs.Ranges.{Fits, fits_range, heard_in_fits}
 

@@ -19,7 +19,6 @@ use Rattle.framing.specs.Framing.{nothing as idle, start_ci, start_menu, store, 
 use Rattle.framing.proofs.Places.{Places, hunts, inside_sync_lem, accepts, passes_over, opens_octet, opens_end, inside_octet_lem, stop_zero_lem, bad_octet_lem, too_many, stores, cut_short, inside_end, reports as reporting, hunted_low, turning, Turns, tells_cj_lem, is_placed, turned_as}
 use Rattle.listening.specs.declared.Message.{Message}
 use Rattle.listening.specs.declared.Listener.{Listener}
-use Rattle.listening.specs.Hearing as telling
 use Rattle.listening.specs.Hearing.{HearOutcome, octets_of, changed, agreed, reported, told, told_alone, acted, heard_in, heard_bit}
 use Rattle.listening.specs.Record.{in_range, fresh}
 use Rattle.listening.proofs.Acts.{heard_not_a_bit}

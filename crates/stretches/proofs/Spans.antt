@@ -12,7 +12,7 @@ use lib.Dec.{ltb, eqb}
 use Rattle.laws.specs.Logic.{when}
 use Rattle.octets.specs.declared.Kind.{Kind}
 use Rattle.octets.specs.declared.Kind.TheVariants.{Ci, Menu}
-use Rattle.framing.specs.Framing.{nothing as idle, start_ci, start_menu, store, report, tell_cj, refusal_act, refusal_in, hunting, in_sync, boundary, ending_ones, pushed, hunted}
+use Rattle.framing.specs.Framing.{nothing as idle, start_ci, start_menu, store, report, tell_cj, refusal_act, refusal_in, hunting, in_sync, boundary, ending_ones, pushed}
 use Rattle.framing.proofs.Places.{Places, hunts, inside_sync_lem, accepts, passes_over, opens_octet, opens_end, inside_octet_lem, stop_zero_lem, bad_octet_lem, too_many, stores, cut_short, inside_end, reports as reporting, Hunted, goes_by, starts, hunted_as, hunted_low, turning, Turns, tells_cj_lem, is_placed, turned_as}
 use Rattle.listening.specs.declared.Listener.{Listener}
 use Rattle.listening.specs.Hearing.{HearOutcome, changed, reported, told, told_alone, acted, heard_in, heard_bit}

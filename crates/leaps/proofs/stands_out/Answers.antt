@@ -5,16 +5,12 @@ use Rattle.sequences.specs.Line.{framed, framed_all, cj}
 use borrow.Author.Tests.{eq-eqb, ne_eqb}
 use Rattle.laws.specs.Logic.{either}
 use Rattle.leaps.specs.Inner.{stands_out}
-use Rattle.leaps.proofs.stands_out.Statement.{statement}
-use Rattle.leaps.proofs.stands_out.Tie as tie
+use Rattle.leaps.proofs.stands_out.Goals as goal
 
-returns : tie.Need-returns
+pub returns-then-past-eq-CJ_WORD : goal.returns-then-past-eq-CJ_WORD
 unfolding stands_out either cj framed_all framed
-returns c = simp (eq-eqb _ _ c.if1.true)
+returns-then-past-eq-CJ_WORD c = simp (eq-eqb _ _ c.if-past-eq-CJ_WORD.true)
 
-returns-2 : tie.Need-returns-2
+pub returns-else-past-eq-CJ_WORD : goal.returns-else-past-eq-CJ_WORD
 unfolding stands_out either cj framed_all framed
-returns-2 c = simp (ne_eqb _ _ c.if1.false)
-
-pub stands-out-spec : {M : Type 1} → statement M
-stands-out-spec = tie.close (tie.spec returns returns-2)
+returns-else-past-eq-CJ_WORD c = simp (ne_eqb _ _ c.if-past-eq-CJ_WORD.false)
