@@ -1,13 +1,13 @@
 -- `menus::ask_at` meets its contract: the number of octets decides, then the first octet, then the walk behind it.
 -- Assumes nothing.
 use native.Mathlib.Omega.{arith}
-use mathlib.Core.Logic.{⊎_elim}
 use mathlib.Core.Path.{◌≡◌, sym, ◌∙◌}
 use mathlib.Core.Bool.{false}
 use borrow.Author.Tests.{lt-ltb, le-ltb}
 use Rattle.laws.specs.Logic.{when}
 use Rattle.octets.specs.Lists.{opens}
 use Rattle.octets.proofs.Lists.{opens_none, opens_some}
+use Rattle.menus.proofs.ask_at.Goals.{else-octets-gt0-via-then-octets-gt0+else-opens_group, else-octets-gt0-via-else-octets-gt0}
 use Rattle.menus.proofs.ask_at.Goals as goal
 
 pub returns-then-octets-gt-MOST_OCTETS : goal.returns-then-octets-gt-MOST_OCTETS
@@ -26,7 +26,8 @@ unfolding when
 returns c =
     let octets = c.args.octets.now in
     let unopened : opens octets ≡ false =
-    ⊎_elim (λ other. opens_some octets other.0.taken ∙ sym other.2.ensures ∙ other.3.left)
-    (λ none. opens_none octets (omega (arith, none.left)))
-    c.else-octets-gt0.branch in
+    elim c.else-octets-gt0.branch [
+      | else-octets-gt0-via-then-octets-gt0+else-opens_group w ↦ opens_some octets w.if-octets-gt0.true ∙ sym w.opens_group.ensures ∙ w.if-opens_group.false
+      | else-octets-gt0-via-else-octets-gt0 w ↦ opens_none octets (omega (arith, w.if-octets-gt0.false))
+    ] in
     simp (unopened, le-ltb _ _ c.if-octets-gt-MOST_OCTETS.false)

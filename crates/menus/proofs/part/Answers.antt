@@ -1,10 +1,11 @@
 -- `menus::part` meets its contract: whether the place is in the message decides, then whether a category octet stands there.
 -- Assumes nothing.
-use mathlib.Core.Logic.{⊎_elim}
 use mathlib.Core.Path.{◌≡◌, sym, ◌∙◌}
+use mathlib.Core.List.{[]}
 use Rattle.menus.proofs.Looking.{part_here, part_not, part_past, start_here, start_none, stands_onward}
 use Rattle.menus.specs.Groups.{part_at}
 use borrow.Author.Rules.{rules}
+use Rattle.menus.proofs.part.Goals.{else-place-octets-via-then-place-octets+else-is_category, else-place-octets-via-else-place-octets}
 use Rattle.menus.proofs.part.Goals as goal
 
 pub returns-then-is_category : goal.returns-then-is_category
@@ -16,7 +17,8 @@ pub returns : goal.returns
 returns c =
     let args = c.args in
     let none : part_at args.octets.now args.place ≡ [] =
-    ⊎_elim (λ no-category. part_not args.octets.now args.place no-category.0.taken (sym no-category.2.ensures ∙ no-category.3.left))
-    (λ past. part_past args.octets.now args.place past.left)
-    c.else-place-octets.branch in
+    elim c.else-place-octets.branch [
+      | else-place-octets-via-then-place-octets+else-is_category w ↦ part_not args.octets.now args.place w.if-place-octets.true (sym w.is_category.ensures ∙ w.if-is_category.false)
+      | else-place-octets-via-else-place-octets w ↦ part_past args.octets.now args.place w.if-place-octets.false
+    ] in
     record { result_value = sym none; ref_ptr_value = stands_onward args.octets.ref_ptr 0 _ (start_none args.octets.now args.place none) }
