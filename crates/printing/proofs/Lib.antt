@@ -1,1 +1,2 @@
+mod Powers
 pub mod Pages

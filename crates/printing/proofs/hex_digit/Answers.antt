@@ -1,0 +1,13 @@
+-- `printing::hex_digit` meets its contract: whether n is below 10 decides, and what is asked of n keeps the sum in a byte.
+-- Assumes nothing.
+use Rattle.laws.specs.Logic.{when}
+use Rattle.laws.proofs.Cases.{cases}
+use Rattle.printing.proofs.hex_digit.Goals as goal
+
+pub returns-then-n-lt10 : goal.returns-then-n-lt10
+unfolding when
+returns-then-n-lt10 c = search cases
+
+pub returns : goal.returns
+unfolding when
+returns c = search cases
