@@ -1,2 +1,1 @@
-mod Powers
 pub mod Pages

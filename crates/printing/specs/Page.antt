@@ -1,6 +1,6 @@
 -- What is typed on a page: byte after byte where there is room, and what has none is left out.
 use Rattle.std.specs.Prelude.{ℕ, ◌+◌, ◌/◌, ◌%◌, ◌≡◌, List, [], ◌∷◌, ltb, length, set}
-use Rattle.printing.specs.Digits.{last_digits, IsDigitCount}
+use Rattle.io.specs.Digits.{last_digits, IsDigitCount}
 use Rattle.laws.specs.Logic.{when}
 
 -- a lent buffer, and the place of the next byte in it

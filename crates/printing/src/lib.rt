@@ -2,9 +2,8 @@
 // place behind what it wrote, and leaves out what has no room.
 #![tactic(auto)]
 
-ghost use Rattle.std.specs.Prelude.{◌≤◌, ◌≡◌, length, take};
+ghost use Rattle.std.specs.Prelude.{◌≤◌, ◌≡◌};
 ghost use Rattle.printing.specs.Page.{page, struck, typed, hex_digit, hex_octet, TypedDecimal};
-ghost use Rattle.printing.specs.Digits.{last_digits, IsDigitCount};
 
 // Characters of ASCII: the digit 0, and the one that stands ten before A.
 const DIGIT_0: u8 = 48;
@@ -54,41 +53,11 @@ pub fn put_octet(out: &mut [u8], at: usize, b: u8) -> usize
     put(out, n, hex_digit(b % 16))
 }
 
-// How many decimal digits a number takes, at least one.
-fn digit_count(n: u64) -> usize
-    ensures { IsDigitCount 10 1 n result }
-{
-    let mut k: usize = 1;
-    let mut rest = n / 10;
-    while rest > 0 {
-        rest /= 10;
-        k += 1;
-    }
-    k
-}
-
-// The decimal digits of a number at the front of a buffer; answered is how many they are.
-fn decimal(n: u64, out: &mut [u8; 20]) -> usize
-    ensures in_bounds { result ≤ length out.new }
-    ensures len { IsDigitCount 10 1 n result }
-    ensures digits { take result out.new ≡ last_digits 10 result n }
-{
-    let k = digit_count(n);
-    let mut i = k;
-    let mut rest = n;
-    while i > 0 {
-        i -= 1;
-        out[i] = DIGIT_0 + (rest % 10) as u8;
-        rest /= 10;
-    }
-    k
-}
-
 // A number in decimal digits.
 pub fn put_decimal(out: &mut [u8], at: usize, number: u64) -> usize
     ensures { TypedDecimal (page out.old at) number (page out.new result) }
 {
     let mut digits = [0u8; 20];
-    let count = decimal(number, &mut digits);
+    let count = io::decimal(number, &mut digits);
     put_text(out, at, &digits[..count])
 }

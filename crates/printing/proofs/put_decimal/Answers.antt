@@ -1,4 +1,4 @@
--- `printing::put_decimal` meets its contract: the digits are those that `decimal` promises, as few as hold the number, and they
+-- `printing::put_decimal` meets its contract: the digits are those that `io::decimal` promises, as few as hold the number, and they
 -- are typed as a text.
 -- Assumes nothing.
 use mathlib.Core.Path.{ap, ◌∙◌}

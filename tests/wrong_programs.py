@@ -1,0 +1,192 @@
+#!/usr/bin/env python3
+"""Tries the wrong programs of must-fail edits, and tells each that the prover does not refuse where it is wrong.
+
+usage: python3 tests/wrong_programs.py [--edits FOLDER] [--trees N] [NAME..]      at the top of a checkout; with no NAME, every crate
+
+An edit tries wrong programs in several functions at once, since each try costs a check of the crate; a line `wrong: LABEL in PLACE`
+names each, and the function or law that has to be refused for it. `rt ci` shows that the edit as a whole is refused. Here each PLACE has to
+be refused by itself: because a fact about it fails, and not because something that it uses was refused, nor because a name is missing.
+What waits for a callee that is refused too is tried again, without those that were refused before, until nothing more is refused.
+Prints each that is not refused so, and last how many there were; exits with 1 where there is one, and with 2 where there is nothing to try.
+The checks are made in copies of the crates below target/wrong-programs, one for each of N workers, where the logs stay.
+With --edits, FOLDER/NAME/must-fail stands for crates/NAME/must-fail.
+"""
+import argparse
+import collections
+import glob
+import os
+import queue
+import re
+import shutil
+import subprocess
+import sys
+import threading
+
+MISSING = re.compile(
+    r"is not in scope|can be named|cannot be named|has no field|has no `|is no name|was not admitted|(was|were) not (checked|admitted)|no constructor"
+)
+ERROR = re.compile(r"^(?:\./)?(proofs|specs|src)/(\S+?):\d+:\d+: error: (?:`([^`]*)`: )?(.*)")
+OPEN = re.compile(r"^fn (?:\w+::)*(\w+): no proof: .*did not prove")
+WRONG = re.compile(r"^wrong: (\S+) in (\S+)$")
+
+Program = collections.namedtuple("Program", "label place file old new")
+
+
+def programs(path):
+    """The wrong programs of an edit, each with the file that it changes; a change that no line names is one without a label."""
+    found, label, place, file, old = [], None, None, None, None
+    with open(path, encoding="utf-8") as lines:
+        for line in lines.read().split("\n"):
+            named = WRONG.match(line)
+            if named:
+                label, place = named[1], named[2]
+            elif line.startswith("file: "):
+                file = line[len("file: ") :].strip()
+            elif line.startswith("old: "):
+                old = line[len("old: ") :]
+            elif line.startswith("new:"):
+                found.append(Program(label, place, file, old, line[len("new:") :].removeprefix(" ")))
+                label = place = old = None
+    return found
+
+
+def edited(folder, chosen):
+    """The texts of the files that these programs change, and what cannot be applied."""
+    texts, bad = {}, []
+    for program in chosen:
+        if program.file not in texts:
+            with open(os.path.join(folder, program.file), encoding="utf-8") as file:
+                texts[program.file] = file.read()
+        if texts[program.file].count(program.old) != 1:
+            bad.append(program)
+        texts[program.file] = texts[program.file].replace(program.old, program.new)
+    return texts, bad
+
+
+def refused(log):
+    """The places that are refused because a fact fails, and those where only a name is missing."""
+    facts, names = set(), set()
+    for line in log.split("\n"):
+        error = ERROR.match(line)
+        if error:
+            root, path, about, text = error.groups()
+            folder, file = os.path.split(path)
+            law = about or ""
+            place = os.path.basename(folder).lstrip("+") if root == "proofs" and folder else law
+            (names if MISSING.search(text) else facts).update({place, law} if root == "proofs" and folder else {law})
+        proof = OPEN.match(line)
+        if proof:
+            facts.add(proof[1])
+    return facts, names - facts
+
+
+def check(tree, crate):
+    done = subprocess.run(["rt", "check"], cwd=os.path.join(tree, "crates", crate), stdin=subprocess.DEVNULL, capture_output=True, text=True, errors="replace")
+    return done.returncode, done.stdout + done.stderr
+
+
+def tried(tree, crate, edit, logs):
+    """Complaints about the wrong programs of an edit."""
+    folder, name = os.path.join(tree, "crates", crate), os.path.basename(edit)[: -len(".edit")]
+    left, said, rounds = programs(edit), [], 0
+    for program in left:
+        if program.label is None:
+            said.append(f"{crate}/{name}: a change without a line 'wrong: LABEL in PLACE': {program.old}")
+    only_names = {}
+    while left:
+        texts, bad = edited(folder, left)
+        if bad:
+            return said + [f"{crate}/{name}: {program.label}: its text does not stand once in {program.file}: {program.old}" for program in bad]
+        kept = {}
+        try:
+            for file, text in texts.items():
+                path = os.path.join(folder, file)
+                with open(path, encoding="utf-8") as it:
+                    kept[path] = it.read()
+                with open(path, "w", encoding="utf-8") as it:
+                    it.write(text)
+            status, log = check(tree, crate)
+        finally:
+            for path, text in kept.items():
+                with open(path, "w", encoding="utf-8") as it:
+                    it.write(text)
+        rounds += 1
+        with open(os.path.join(logs, f"{name}.{rounds}.log"), "w", encoding="utf-8") as it:
+            it.write(log)
+        if status == 0:
+            break
+        facts, names = refused(log)
+        for program in left:
+            only_names[program.label] = program.place in names
+        rest = [program for program in left if program.place not in facts]
+        if len(rest) == len(left):
+            break
+        left = rest
+    return said + [
+        f"{crate}/{name}: {program.label} is not refused in {program.place}" + (", but for a name that is missing" if only_names.get(program.label) else "")
+        for program in left
+    ]
+
+
+def work(tree, root, tasks, edits_of, said, lock):
+    while True:
+        try:
+            crate = tasks.get_nowait()
+        except queue.Empty:
+            return
+        logs = os.path.join(root, "target", "wrong-programs", "logs", crate)
+        os.makedirs(logs, exist_ok=True)
+        status, log = check(tree, crate)
+        found = []
+        if status:
+            found.append(f"{crate}: does not prove as it stands")
+        else:
+            for edit in edits_of[crate]:
+                found += tried(tree, crate, edit, logs)
+        with lock:
+            said += found
+            for line in found:
+                print(line, flush=True)
+
+
+def main():
+    reader = argparse.ArgumentParser()
+    reader.add_argument("--edits", default="crates")
+    reader.add_argument("--trees", type=int, default=2)
+    reader.add_argument("names", nargs="*")
+    asked = reader.parse_args()
+    root = os.getcwd()
+    order = [line.split(":")[0].split()[0] for line in open("crates.txt", encoding="utf-8") if line.strip() and not line.startswith("#")]
+    edits_of = {name: sorted(glob.glob(os.path.join(asked.edits, name, "must-fail", "*.edit"))) for name in asked.names or order}
+    edits_of = {name: [os.path.abspath(edit) for edit in edits] for name, edits in edits_of.items() if edits}
+    if not edits_of:
+        print("no edits")
+        return 2
+    home = os.path.join(root, "target", "wrong-programs")
+    shutil.rmtree(os.path.join(home, "logs"), ignore_errors=True)
+    tasks, said, lock, workers = queue.Queue(), [], threading.Lock(), []
+    for name in order:
+        if name in edits_of:
+            tasks.put(name)
+    for at in range(min(asked.trees, len(edits_of))):
+        tree = os.path.join(home, f"tree{at}")
+        for name in order:
+            for part in ("src", "specs", "proofs"):
+                shutil.rmtree(os.path.join(tree, "crates", name, part), ignore_errors=True)
+                if os.path.isdir(os.path.join(root, "crates", name, part)):
+                    shutil.copytree(os.path.join(root, "crates", name, part), os.path.join(tree, "crates", name, part))
+        shutil.copy(os.path.join(root, "crates.txt"), tree)
+        os.makedirs(os.path.join(tree, ".git"), exist_ok=True)
+        workers.append(threading.Thread(target=work, args=(tree, root, tasks, edits_of, said, lock)))
+    for worker in workers:
+        worker.start()
+    for worker in workers:
+        worker.join()
+    tries = sum(len(edits) for edits in edits_of.values())
+    count = sum(len(programs(edit)) for edits in edits_of.values() for edit in edits)
+    print(f"{count} wrong programs in {tries} edits, {len(said)} not refused where they are wrong")
+    return 1 if said else 0
+
+
+if __name__ == "__main__":
+    sys.exit(main())
