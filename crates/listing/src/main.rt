@@ -5,13 +5,16 @@
 ghost use Rattle.std.specs.Prelude.{◌≤◌, length};
 ghost use Rattle.listening.proofs.Ranges.{Fits};
 
-use libc::{STDIN_FILENO, STDOUT_FILENO};
 use listening::{Heard, Listener};
 use printing::{put_decimal, put_octet, put_text};
+use std::io::{Read, Stdin};
 
 // Room that is kept for the next line, which has at most 222 bytes: 20 digits, a word of four, 64 octets, three digits, and what parts
 // and ends them.
 const LINE_ROOM: usize = 256;
+
+// The number of standard output.
+const STDOUT: i32 = 1;
 
 // The line's record, how many bits were heard, and whether more may come.
 #[derive(Clone, Copy)]
@@ -138,7 +141,7 @@ fn make_room(out: &[u8], n: usize) -> usize
     ensures { result ≤ length out.now }
 {
     if out.len() - n < LINE_ROOM {
-        io::write_all(STDOUT_FILENO, &out[..n]);
+        io::write_all(STDOUT, &out[..n]);
         return 0;
     }
     n
@@ -188,7 +191,7 @@ fn list(s: State, bits: &[u8], out: &mut [u8]) -> State
         count = std::num::wrapping_add_u64(count, bits_of(report, taken));
         at += taken;
     }
-    io::write_all(STDOUT_FILENO, &out[..n]);
+    io::write_all(STDOUT, &out[..n]);
     State {
         rec: rec,
         bits: count,
@@ -196,13 +199,22 @@ fn list(s: State, bits: &[u8], out: &mut [u8]) -> State
     }
 }
 
+// How many bytes came at once; none where nothing comes any more, or nothing can be read.
+fn read_once(mut input: Stdin, text: &mut [u8]) -> usize
+    ensures { result ≤ length text.new }
+{
+    match input.read(text) {
+        Ok(n) => n,
+        Err(_) => 0,
+    }
+}
+
 // Reads once, and lists what came; where nothing comes any more, or nothing can be read, the listing is over.
-fn read_block(s: State, text: &mut [u8], lines: &mut [u8]) -> State
+fn read_block(input: Stdin, s: State, text: &mut [u8], lines: &mut [u8]) -> State
     requires { Fits s.rec }
     ensures { Fits result.rec }
 {
-    let got = libc::read(STDIN_FILENO, text);
-    let n = io::count(got, text);
+    let n = read_once(input, text);
     if n == 0 {
         let rec = s.rec;
         return State {
@@ -215,7 +227,7 @@ fn read_block(s: State, text: &mut [u8], lines: &mut [u8]) -> State
     list(s, &text[..k], lines)
 }
 
-fn list_all(text: &mut [u8], lines: &mut [u8]) {
+fn list_all(input: Stdin, text: &mut [u8], lines: &mut [u8]) {
     let mut s = State {
         rec: listening::fresh_line(),
         bits: 0,
@@ -224,16 +236,16 @@ fn list_all(text: &mut [u8], lines: &mut [u8]) {
     let mut turns = u64::MAX;
     while 0 < turns {
         turns -= 1;
-        s = read_block(s, text, lines);
+        s = read_block(input, s, text, lines);
         if !s.on {
             return;
         }
     }
 }
 
-fn main() {
-    io::write_all(STDOUT_FILENO, b"bit\twhat\toctets\tspan\n");
+fn main(rt: HostRuntime) {
+    io::write_all(STDOUT, b"bit\twhat\toctets\tspan\n");
     let mut text = io::large_buffer();
     let mut lines = io::large_buffer();
-    list_all(&mut text, &mut lines);
+    list_all(rt.stdin(), &mut text, &mut lines);
 }
