@@ -1,4 +1,5 @@
-# The library for C: `make` proves it and writes the archive and the shared library, `make install` puts header, both libraries and a
+# The library for C: `make` proves it and writes the archive and the shared library, `make programs` proves `listing` and `rehearse` and
+# writes them into target/bin, `make install` puts header, both libraries and a
 # description for pkg-config below PREFIX. What is installed is what the gate tests; nothing else is built here.
 PREFIX ?= /usr/local
 DESTDIR ?=
@@ -13,12 +14,21 @@ LIB := $(DESTDIR)$(PREFIX)/lib
 INSTALLED := $(INCLUDE)/tailsprig.h $(LIB)/libtailsprig.a $(LIB)/libtailsprig.so.$(VERSION) $(LIB)/$(SONAME) $(LIB)/libtailsprig.so \
 	$(LIB)/pkgconfig/tailsprig.pc
 
-.PHONY: all install uninstall
+.PHONY: all programs install uninstall
 
 # The archive's code is position independent and asks for no other library, so all of it makes the shared one; -z defs holds it to that.
 all:
-	rt staticlib tailsprig
+	cd crates/tailsprig && rt lib
+	install -d $(MADE)
+	install -m 644 crates/tailsprig/out/libtailsprig.a $(MADE)/
 	$(CC) -shared -nostdlib -Wl,-z,defs -Wl,-z,text -Wl,-soname,$(SONAME) -Wl,--whole-archive $(MADE)/libtailsprig.a -o $(MADE)/libtailsprig.so
+
+# `rt run` leaves a program in its crate's out/; with no input each ends at once.
+programs:
+	cd crates/listing && rt run </dev/null >/dev/null
+	cd crates/rehearse && rt run </dev/null >/dev/null
+	install -d target/bin
+	install -m 755 crates/listing/out/listing crates/rehearse/out/rehearse target/bin/
 
 # Without a prerequisite: who installs as another user has proved it before, as the user whose files these are.
 install:

@@ -1,4 +1,4 @@
-//! Links the archive that `rt staticlib tailsprig` writes.
+//! Links the archive that `make` writes.
 use std::{env, path::PathBuf};
 
 fn main() {

@@ -1,20 +1,19 @@
 #!/usr/bin/env bash
 # must_not_build.sh: an item number passed where a bit number belongs must not build. Adds such a line to a copy of the crate
-# `items` and expects the type error; the same line with a bit number must not give it. Run behind a check of the crates, whose
-# results the copy uses.
+# `items` and expects the type error; the same line with a bit number must not give it.
 set -uo pipefail
 cd "$(dirname "$0")/.." || exit 2
 
 work=$(mktemp -d)
 trap 'rm -rf "$work"' EXIT
-cp -r crates crates.txt target "$work" || exit 2
+cp -r crates crates.txt "$work" || exit 2
 source=$work/crates/items/src/lib.rt
 
 # type_error ARGUMENT: what a check says of has_bit with this argument, where it is about types.
 type_error() {
     cp crates/items/src/lib.rt "$source"
     printf '\nfn passed(b: u8) -> bool {\n    has_bit(b, %s)\n}\n' "$1" >>"$source"
-    (cd "$work" && rt check items 2>&1) | grep -F 'error[mismatched-types]'
+    (cd "$work/crates/items" && rt check 2>&1) | grep -F 'error[mismatched-types]'
 }
 
 expected='expected `Bit`, found `Item`'

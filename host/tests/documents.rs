@@ -31,12 +31,12 @@ fn files(folder: &Path) -> Vec<PathBuf> {
     found
 }
 
-/// The crates of `crates.txt` that are in this repository.
+/// The crates of `crates.txt` that are in this repository. Behind a name may stand what is built of it.
 fn crates() -> Vec<String> {
     read(&root().join("crates.txt"))
         .lines()
         .filter(|line| !line.starts_with('#'))
-        .filter_map(|line| Some(line.split_once(':')?.0.to_string()))
+        .filter_map(|line| Some(line.split_once(':')?.0.split(' ').next()?.to_string()))
         .collect()
 }
 

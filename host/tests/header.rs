@@ -52,7 +52,7 @@ fn structs_of(source: &str) -> Structs {
 /// Those of all crates.
 fn declared() -> Structs {
     let crates = read("crates.txt");
-    let names = crates.lines().filter(|line| !line.starts_with('#')).filter_map(|line| Some(line.split_once(':')?.0));
+    let names = crates.lines().filter(|line| !line.starts_with('#')).filter_map(|line| line.split_once(':')?.0.split(' ').next());
     let sources = names.filter_map(|krate| fs::read_to_string(root().join(format!("crates/{krate}/src/lib.rt"))).ok());
     sources.flat_map(|source| structs_of(&source)).collect()
 }

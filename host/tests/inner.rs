@@ -29,7 +29,8 @@ fn read(path: &Path) -> String {
 
 fn crates() -> Vec<String> {
     let listed = read(&root().join("crates.txt"));
-    listed.lines().filter(|line| !line.starts_with('#')).filter_map(|line| Some(line.split_once(':')?.0.to_string())).collect()
+    let names = listed.lines().filter(|line| !line.starts_with('#')).filter_map(|line| line.split_once(':')?.0.split(' ').next());
+    names.map(str::to_string).collect()
 }
 
 /// The files of a folder with this ending, by their stem.
@@ -43,7 +44,7 @@ fn sources(folder: &Path, ending: &str) -> Vec<(String, String)> {
 /// The words of a text, with `alias.name` as one word; comments are left out.
 fn words(text: &str) -> impl Iterator<Item = &str> {
     let code = text.lines().filter(|line| !line.trim_start().starts_with("--"));
-    code.flat_map(|line| line.split(|c: char| c.is_whitespace() || "(){};,⌜⌝«»".contains(c))).filter(|word| !word.is_empty())
+    code.flat_map(|line| line.split(|c: char| c.is_whitespace() || "(){};,«»".contains(c))).filter(|word| !word.is_empty())
 }
 
 /// What a file brings in from definitions of the crates. Declared types are left out: they hold no definition.
@@ -51,9 +52,7 @@ fn scope(text: &str) -> Scope {
     let mut found = Scope::new();
     for line in text.lines() {
         let line = line.trim_start_matches("ghost ").trim_end_matches(';');
-        let Some(rest) = line.strip_prefix("use Rattle·") else { continue };
-        let Some((krate, rest)) = rest.split_once(".specs.").or_else(|| rest.split_once("·specs.specs.")) else { continue };
-        let krate = krate.trim_end_matches("·specs");
+        let Some((krate, rest)) = line.strip_prefix("use Rattle.").and_then(|rest| rest.split_once(".specs.")) else { continue };
         if let Some((module, names)) = rest.split_once(".{") {
             for name in names.trim_end_matches('}').split(", ") {
                 let (name, called) = name.split_once(" as ").unwrap_or((name, name));
@@ -66,14 +65,15 @@ fn scope(text: &str) -> Scope {
     found
 }
 
-/// Which definition a word of a file stands for.
+/// Which definition a word of a file stands for. What stands behind a dot is of a module that has another name here, or a field.
 fn meant(word: &str, scope: &Scope) -> Option<Name> {
     if let Some((krate, module, Some(name))) = scope.get(word) {
         return Some((krate.clone(), module.clone(), name.clone()));
     }
     let (alias, name) = word.split_once('.')?;
-    let (krate, module, None) = scope.get(alias)? else { return None };
-    Some((krate.clone(), module.clone(), name.to_string()))
+    let (krate, module, called) = scope.get(alias)?;
+    let first = name.split('.').next().unwrap_or_default();
+    Some((krate.clone(), module.clone(), called.clone().unwrap_or_else(|| first.to_string())))
 }
 
 /// The name that a paragraph of a file of definitions defines.
