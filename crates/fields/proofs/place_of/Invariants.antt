@@ -1,0 +1,13 @@
+-- `fields::place_of` meets its contract. Invariant: `place` is where block k begins, so the block that is read there is block k, and the next one
+-- begins behind it.
+-- Assumes nothing.
+use Prim.Native.Nat.{◌≤◌, ◌-◌}
+use mathlib.Core.Path.{◌≡◌}
+use Rattle.fields.specs.Blocks.{place_of}
+use Rattle.fields.proofs.place_of.Given as goal
+
+abbrev pub invariant-loop-k : goal.invariant-loop-k
+invariant-loop-k l = (l.k ≤ l.number) × (l.place ≡ place_of l.octets l.k)
+
+abbrev pub decreases-loop-k : goal.decreases-loop-k
+decreases-loop-k l = l.number - l.k
