@@ -66,7 +66,7 @@ carries event value =
 abbrev pub is_sent : ℕ → Cadence → Bool
 is_sent tone c = both (c.tone == tone) (left c == 0)
 
--- what else a row asks for: "elapsed Te", "choice none", "refused with 11", "sig_c of the chosen item", what was heard and sent, or nothing
+-- what else a row asks for: "elapsed Te", "choice none", "refused with 11", "sigC of the chosen item", what was heard and sent, or nothing
 abbrev pub holds : ℕ → Session → ℕ → ℕ → Bool
 holds condition s value passed =
     when (condition == te_elapsed) (nat_le s.te passed)

@@ -52,7 +52,7 @@ not_offered = 4
 abbrev pub goes_on : ℕ
 goes_on = 5
 
--- "The caller's events are ANSam, ANS, sig_a, agreed JM and CJ sent; the answerer's are agreed CM, sig_c and CJ; the tick is for both."
+-- "The caller's events are ANSam, ANS, sigA, agreed JM and CJ sent; the answerer's are agreed CM, sigC and CJ; the tick is for both."
 abbrev pub ansam : ℕ
 ansam = 1
 
@@ -140,11 +140,11 @@ rows =
     ∷ row pause tick 75 always over goes_on
     -- "elapsed 200: answering (sends ANSam)"
     ∷ row answerer_still tick 200 always answering going
-    -- "agreed CM: joint (sends JM). sig_c, or elapsed 5,000: pause, then left"
+    -- "agreed CM: joint (sends JM). sigC, or elapsed 5,000: pause, then left"
     ∷ row answering agreed_cm 0 always joint going
     ∷ row answering sig_c 0 always pause going
     ∷ row answering tick 5000 always pause going
-    -- "CJ: pause, choice none: over, cleared. sig_c of the chosen item: pause. Elapsed 10,000 (house): over, late"
+    -- "CJ: pause, choice none: over, cleared. sigC of the chosen item: pause. Elapsed 10,000 (house): over, late"
     ∷ row joint cj 0 none_chosen over cleared
     ∷ row joint cj 0 always pause going
     ∷ row joint sig_c 0 chosen_item pause going

@@ -248,7 +248,7 @@ const ROWS: [Row; 23] = [
         condition: ALWAYS,
         to: To(ANSWERING, GOING),
     },
-    // agreed CM: joint (sends JM). sig_c, or elapsed 5,000: pause, then left
+    // agreed CM: joint (sends JM). sigC, or elapsed 5,000: pause, then left
     Row {
         state: ANSWERING,
         event: AGREED_CM,
@@ -270,7 +270,7 @@ const ROWS: [Row; 23] = [
         condition: ALWAYS,
         to: To(PAUSE, GOING),
     },
-    // CJ: pause, choice none: over, cleared. sig_c of the chosen item: pause. Elapsed 10,000: over, late
+    // CJ: pause, choice none: over, cleared. sigC of the chosen item: pause. Elapsed 10,000: over, late
     Row {
         state: JOINT,
         event: CJ,
@@ -790,7 +790,7 @@ fn step_in(session: Session, event: u8, value: u8, now: u32) -> Stepped
     refuse_step(session, Refusal::WrongEvent)
 }
 
-// An event, what it carries, and its time. A choice is carried as the session holds it, REFUSED_WITH_11 by an agreed JM alone; sig_c
+// An event, what it carries, and its time. A choice is carried as the session holds it, REFUSED_WITH_11 by an agreed JM alone; sigC
 // carries an item. Other events carry nothing, and their value is not looked at. A number that is no event is no event of this end.
 pub fn step(session: Session, event: u8, value: u8, now: u32) -> Stepped
     ensures { Steps (stepped session event value now) result }

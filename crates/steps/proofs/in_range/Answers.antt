@@ -1,4 +1,4 @@
--- `steps::in_range` meets its contract: the six tests of `inRange`, in its order, and the first that fails decides.
+-- `steps::in_range` meets its contract: the six tests of `in_range`, in its order, and the first that fails decides.
 -- Assumes nothing.
 use Rattle.laws.specs.Logic.{both}
 use Rattle.steps.specs.Session.{in_range}
