@@ -1,5 +1,5 @@
 -- A call text, read into a plan or the first mistake in it.
-use Rattle.std.specs.Prelude.{ℕ, ◌+◌, ◌*◌, ◌/◌, ◌%◌, ◌^◌, Bool, false, List, [], ◌∷◌, ◌++◌, set, replicate, ◌==◌, nat_lt, slice_index, slice_set}
+use Rattle.std.specs.Prelude.{ℕ, ◌+◌, ◌*◌, ◌/◌, ◌%◌, ◌^◌, Bool, false, List, [], ◌∷◌, ◌++◌, replicate, ◌==◌, nat_lt, slice_index, slice_set}
 use Rattle.laws.specs.Logic.{when, both, either}
 use Rattle.items.specs.Items.{in_set}
 use Rattle.names.specs.declared.Meaning.{Meaning}

@@ -1,0 +1,74 @@
+-- `plans::put_octets_of` meets its contract. Invariant: the octets that are written and those of the rest of the text are all of them.
+-- Assumes nothing.
+use Rattle.std.proofs.Common.{◌≡◌, ℕ, ◌+◌, List, [], length, drop, sym, ap, ◌∙◌, subst, arith, w64, Fits, rules, eq-eqb, ne_eqb}
+use mir.Facts.{Fits-below}
+use Rattle.laws.specs.Logic.{when}
+use Rattle.plans.specs.declared.Reading.{Reading}
+use Rattle.plans.specs.Reading.{between, fresh, octets_from, octets_in}
+use Rattle.plans.proofs.Walk.{one_octet_lem, none_octet, octets_on, octets_end}
+use Rattle.plans.proofs.Writing.{fitted, fitted_none, Written, written_none, written_one, written_on, written_all}
+use Rattle.plans.proofs.put_octets_of.Goals.{In-loop-i}
+use Rattle.plans.proofs.put_octets_of.Goals.{then-b-lt-NO_OCTET, else-b-lt-NO_OCTET}
+use Rattle.plans.proofs.put_octets_of.Goals as goal
+
+pub returns-then-call-ne0 : goal.returns-then-call-ne0
+unfolding octets_in when
+returns-then-call-ne0 c =
+    let args = c.args in
+    let none : octets_in args.end args.text.now ≡ [] = simp (ne_eqb _ _ c.if-call-ne0.true, ← c.read-call.ensures) in
+    record { count = ap length (sym none); octets = sym (ap (λ (list : List ℕ). fitted list args.out.now) none ∙ fitted_none args.out.now) }
+
+pub loop-i-init : goal.loop-i-init
+loop-i-init c =
+    let args = c.args in
+    let all = octets_from args.end fresh between args.text.now in
+    (subst (λ (r : Reading). Written all (octets_from args.end r between args.text.now) args.out.now args.out.now 0) (sym c.begin-r.ensures) (written_none all args.out.now), search rules, search rules, search rules)
+
+pub overflow_cast-b : goal.overflow_cast-b
+overflow_cast-b c = Fits-below {n = 255} tt (omega (arith, c.if-b-lt-NO_OCTET.true))
+
+n-fits : (body : In-loop-i) → Fits w64 (body.loop-i.n + 1)
+n-fits body = search rules
+
+i-fits : (body : In-loop-i) → Fits w64 (body.loop-i.i + 1)
+i-fits body = search rules
+
+pub overflow_add-n : goal.overflow_add-n
+overflow_add-n c = n-fits (goal.at.overflow_add-n c).In-loop-i
+
+pub overflow_add-i : goal.overflow_add-i
+overflow_add-i c = i-fits (goal.at.overflow_add-i c).In-loop-i
+
+pub loop-i-preserved : goal.loop-i-preserved
+loop-i-preserved c =
+    let text = c.args.text.now in
+    let i = c.loop-i.i in
+    let more = c.loop-i-test.true in
+    let rest = octets_from c.args.end c.read_byte-r.result c.scan_after-scan.result (drop (i + 1) text) in
+    let on = octets_on text i more c.loop-i.r c.loop-i.scan c.read_byte-r.result c.read_byte-r.ensures c.args.end c.scan_after-scan.result c.octet_at-b.result c.scan_after-scan.ensures c.octet_at-b.ensures in
+    let same = c.if-b-lt-NO_OCTET.auto.out ∙ c.loop-i.invariant.3 in
+    elim c.if-b-lt-NO_OCTET.branch [
+      | then-b-lt-NO_OCTET w ↦ (
+        written_one c.loop-i.invariant.0 c.octet_at-b.result rest _ _ (on ∙ one_octet_lem c.octet_at-b.result rest w.if-b-lt-NO_OCTET.true) (w.out-is ∙ w.write_at.ensures) w.n-is,
+        omega (arith, more),
+        omega (arith, w.n-is, c.loop-i.invariant.2),
+        same,
+      )
+      | else-b-lt-NO_OCTET w ↦ (
+        written_on c.loop-i.invariant.0 rest _ _ (on ∙ none_octet c.octet_at-b.result rest w.if-b-lt-NO_OCTET.false) w.out-is w.n-is,
+        omega (arith, more),
+        omega (arith, w.n-is, c.loop-i.invariant.2),
+        same,
+      )
+    ]
+
+pub shape_of-out : goal.shape_of-out
+shape_of-out c = c.loop-i.invariant.3
+
+pub returns : goal.returns
+unfolding octets_in when
+returns c =
+    let args = c.args in
+    let is-plan : octets_in args.end args.text.now ≡ octets_from args.end fresh between args.text.now = simp (eq-eqb _ _ c.if-call-ne0.false, ← c.read-call.ensures) in
+    let written = written_all c.loop-i.invariant.0 (octets_end args.text.now c.loop-i.i c.loop-i-test.false args.end c.loop-i.r c.loop-i.scan) in
+    record { count = written.0 ∙ ap length (sym is-plan); octets = written.1 ∙ ap (λ (list : List ℕ). fitted list args.out.now) (sym is-plan) }
