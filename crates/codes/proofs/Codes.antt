@@ -23,4 +23,4 @@ negated_fits (suc n) small = record { sfits = omega arith }
 
 -- what a call answers comes to C as it is
 pub read_answer : (r : ℤ) → mag r < 2 ^ 31 → to_z w32 (of_z w32 r) ≡ r
-read_answer r small = to_z-of_z (record { sfits = small })
+read_answer r small = to_z-of_z {w = w32} (record { sfits = small })
