@@ -4,7 +4,7 @@
 use Prim.Native.Nat.{ℕ}
 use mathlib.Core.Path.{◌≡◌, refl, sym, ap, subst, ◌∙◌}
 use mathlib.Core.Bool.{true, false}
-use mathlib.Core.List.{List, ◌∷◌}
+use mathlib.Core.List.{List, ◌∷◌, []}
 use Rattle.laws.specs.Logic.{both, either}
 use Rattle.laws.proofs.Logic.{clash}
 use Rattle.records.specs.declared.Record.{Record}
@@ -12,7 +12,7 @@ use Rattle.cadence.specs.Cadence.{is_cadence}
 use Rattle.cadence.specs.Giving.{begun}
 use Rattle.steps.specs.declared.Session.{Session}
 use Rattle.steps.specs.Session.{is_mode, is_te, caller_from, answerer_from}
-use Rattle.steps.specs.Runs.{Act, run, Brought, here, later}
+use Rattle.steps.specs.Runs.{Act, next, run, Brought, here, later}
 use Rattle.steps.proofs.Ranges.{caller_start_is_in_range, answerer_start_is_in_range}
 use Rattle.steps.proofs.Choices.{goes_on_as_brought, went_on_as_brought, cleared_as_brought}
 use Rattle.demands.specs.Joint.{cm_of, jm_of}
@@ -40,8 +40,9 @@ any_end_ends_as_agreed start (answering now) acts = record {
 
 -- what is brought is what every agreed menu carries
 brought_is : (choice other : ℕ) (s : Session) (acts : List Act) → Carrying choice s acts → Brought s acts other → other ≡ choice
+brought_is choice other s [] _ brought = elim brought [ ]
 brought_is choice other s (a ∷ acts) (more carries rest) (here agreed _) = carries agreed
-brought_is choice other s (a ∷ acts) (more carries rest) (later _ brought) = brought_is choice other _ acts rest brought
+brought_is choice other s (a ∷ acts) (more carries rest) (later _ brought) = brought_is choice other (next s a).session acts rest brought
 
 -- none is no mode
 no_mode : is_mode 0 ≡ false

@@ -127,10 +127,12 @@ heard_copies : (octets bits : List ℕ) → octets_all octets ≡ true → (send
 heard_copies octets bits small sends = let are = sent_as octets bits small sends in ap (reports fresh) are.1 ∙ copies_read Menu octets are.0 sends.copies
 
 agreed_again : (n : ℕ) (heard octets : List ℕ) → Agreed heard (replicate n (message_of Menu octets true)) → heard ≡ octets
+agreed_again zero heard octets agreed = elim agreed [ ]
 agreed_again (suc n) heard octets here = refl
 agreed_again (suc n) heard octets (later unlike rest) = clash unlike
 
 agreed_as : (n : ℕ) (heard octets : List ℕ) → Agreed heard (repeated Menu octets n) → heard ≡ octets
+agreed_as zero heard octets agreed = elim agreed [ ]
 agreed_as (suc n) heard octets (later unlike rest) = agreed_again n heard octets rest
 
 -- a CI in front is not agreed

@@ -90,6 +90,7 @@ pub record Reached (s : Session) (d : Due) (ds : List Due) (acts : List Act) : T
 
 reached : (s : Session) (d : Due) (ds : List Due) (acts : List Act) → in_range s ≡ true → InOrder s (d ∷ ds) acts → Reached s d ds acts
 unfolding run
+reached s d ds [] inside order = elim order [ ]
 reached s d ds (a ∷ acts) inside (waiting answered tone order) =
     let here = waits s a inside answered tone in
     let later = reached (next s a).session d ds acts here.inside order in

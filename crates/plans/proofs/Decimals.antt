@@ -2,7 +2,7 @@
 -- Assumes nothing.
 use Rattle.std.proofs.Common.{◌≡◌, ℕ, zero, suc, ◌+◌, ◌*◌, ◌/◌, ◌%◌, ◌^◌, ◌<◌, ◌≤◌, Bool, true, cond, not, ltb, List, [], ◌∷◌, ◌++◌, length, refl, ap, ◌∙◌, ap₂, not-suc-le-zero, arith, lit<, lit≤, length-append, ltb-true, le-ltb, lt-ltb}
 use native.Mathlib.Nat.{pow-le-pow_right}
-use Rattle.printing.specs.Digits.{hex_digit_ascii, last_digits}
+use Rattle.io.specs.Digits.{hex_digit_ascii, last_digits}
 use Rattle.laws.specs.Logic.{when, both, either}
 use Rattle.laws.specs.Tests.{every, all_below}
 use Rattle.laws.proofs.Logic.{either_way}

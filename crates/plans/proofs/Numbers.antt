@@ -5,7 +5,7 @@ use Rattle.laws.specs.Logic.{when, both}
 use Rattle.laws.specs.Tests.{all_below}
 use Rattle.laws.proofs.Logic.{either_way}
 use Rattle.laws.proofs.Computed.{below}
-use Rattle.printing.specs.Digits.{IsDigitCount}
+use Rattle.io.specs.Digits.{IsDigitCount}
 use Rattle.printing.specs.Page.{Page, typed, TypedDecimal}
 use Rattle.printing.proofs.Pages.{typed_decimal_unique}
 use Rattle.plans.specs.Text.{hex_value}

@@ -1,6 +1,6 @@
 -- A plan in its plain form: every default written out.
 use Rattle.std.specs.Prelude.{ℕ, zero, suc, ◌+◌, ◌/◌, ◌%◌, List, [], ◌∷◌, ◌++◌, length, take, drop, ◌==◌, nat_lt}
-use Rattle.printing.specs.Digits.{last_digits}
+use Rattle.io.specs.Digits.{last_digits}
 use Rattle.laws.specs.Logic.{when}
 use Rattle.printing.specs.Page.{hex_octet}
 use Rattle.names.specs.Bytes.{bytes}

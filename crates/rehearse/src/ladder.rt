@@ -5,11 +5,13 @@ use super::line::Line;
 use super::words::{Text, blank, put_words};
 use super::{line, words};
 use fields::{Block, Span};
-use libc::STDOUT_FILENO;
 use menus::{Offer, ReadMenu};
 use refusals::{Refusal, Wrote};
 use std::num::{wrapping_add_u8, wrapping_add_usize, wrapping_sub_usize};
 use steps::Session;
+
+// The number of standard output.
+pub const STDOUT: i32 = 1;
 
 // The columns: milliseconds end at 5, the ends' own stand at 7 and 86, and the middle has the 66 between 19 and 85.
 const CLOCK_END: usize = 5;
@@ -53,7 +55,7 @@ pub fn say(text: Text) {
     let n = trimmed(text);
     let mut bytes = text.bytes;
     bytes[n] = b'\n';
-    io::write_all(STDOUT_FILENO, line::part(&bytes, n + 1));
+    io::write_all(STDOUT, line::part(&bytes, n + 1));
 }
 
 // Octets, a blank before each, and so many more before the first.

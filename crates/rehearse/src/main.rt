@@ -11,7 +11,6 @@ mod words;
 ghost use Rattle.std.specs.Prelude.{◌≡◌, ◌<◌, length};
 
 use ladder::say;
-use libc::{STDIN_FILENO, STDOUT_FILENO};
 use line::{Line, MOST_OCTETS, Made};
 use octets::{Kind, Purpose};
 use plans::Plan;
@@ -19,6 +18,9 @@ use refusals::{Refusal, Verdict, Wrote};
 use std::num::wrapping_sub_u32;
 use steps::{Session, Started};
 use words::{Text, blank, put_words};
+
+// The number of standard input.
+const STDIN: i32 = 0;
 
 // Room for a text, and for a plan: the longest, every bit damaged, takes less, so what is printed can be read.
 const ROOM: usize = 131072;
@@ -134,7 +136,7 @@ fn put_ladder(plan: Plan, first: Session, cm: Made, damaged: &[u8]) {
 fn put_plan(plan: Plan, cm: &[u8], blocks: &[u8], damaged: &[u8]) {
     let mut page = room();
     let n = plans::put_plan(&mut page, 0, plan, cm, blocks, damaged);
-    io::write_all(STDOUT_FILENO, line::part(&page, n));
+    io::write_all(ladder::STDOUT, line::part(&page, n));
 }
 
 // The function that CI names: that of CM, or data where a stranger's CM calls for none of the six.
@@ -303,6 +305,6 @@ fn answer(text: &[u8]) {
 
 fn main() {
     let mut text = room();
-    let n = io::read_full(STDIN_FILENO, &mut text);
+    let n = io::read_full(STDIN, &mut text);
     answer(&text[..n]);
 }
