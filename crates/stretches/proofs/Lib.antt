@@ -12,6 +12,7 @@ pub mod Endings
 pub mod Next
 pub mod Syncs
 pub mod Parts
+pub mod Counting
 pub mod Spans
 pub mod Bytes
 pub mod Copies

@@ -22,10 +22,7 @@ use Rattle.listening.proofs.Acts.{heard_not_a_bit}
 use Rattle.listening.proofs.Ranges.{range_fits, fits_range, fresh_fits, heard_range, heard_inside}
 use Rattle.stretches.specs.Hearing.{Report, message, cj, refusal, noted, reports, once_heard, last_of}
 use Rattle.stretches.specs.Heard.{counted}
-
--- what is counted with a bit that brings this place
-abbrev one_more : ℕ → ℕ → ℕ
-one_more place n = when (eqb place in_sync) 1 (n + 1)
+use Rattle.stretches.proofs.Counting.{one_more, one_byte}
 
 -- what is counted, by the record's own numbers
 record Counts (n place len : ℕ) : Type 0 where
@@ -125,11 +122,7 @@ module _ (n : ℕ) (before : Spanned) (rec : Listener) (s : Spans n before rec) 
   turned_carries (tells_cj_lem e) = passes _ tell_cj (λ later. refl) refl (counts_hunting (n + 1) len) (λ high. absurd (omega (arith, high))) refl
   turned_carries (is_placed e p) = placed_carries p
 
-  -- what is counted with a byte, which may be no bit
-  abbrev one_byte : Bool → ℕ
-  one_byte no_bit_lem = when no_bit_lem n (one_more (heard_bit rec bit).rec.ear.place n)
-
-  byte_carries : (no_bit_lem : Bool) → ltb 1 bit ≡ no_bit_lem → Carries before (heard_bit rec bit) (one_byte no_bit_lem)
+  byte_carries : (no_bit_lem : Bool) → ltb 1 bit ≡ no_bit_lem → Carries before (heard_bit rec bit) (one_byte (heard_bit rec bit).rec.ear.place n no_bit_lem)
   unfolding heard_in acted when last_of
   byte_carries true e =
       rw (heard_inside rec bit s.range ∙ heard_not_a_bit rec bit (ltb-true 1 bit e))
@@ -140,7 +133,7 @@ module _ (n : ℕ) (before : Spanned) (rec : Listener) (s : Spans n before rec) 
       rw heard (turned_carries turn.by)
 
   abbrev next : ℕ
-  next = one_byte (ltb 1 bit)
+  next = one_byte (heard_bit rec bit).rec.ear.place n (ltb 1 bit)
 
   byte_spans : (c : Carries before (heard_bit rec bit) next) → Spans next c.after (heard_bit rec bit).rec
   byte_spans c = record { range = heard_range rec bit s.range; counts = c.counts; kind = c.kind; last = c.last }
