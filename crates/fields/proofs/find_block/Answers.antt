@@ -11,8 +11,8 @@ use Rattle.fields.proofs.find_block.Goals.{In-Blocks}
 use Rattle.fields.proofs.find_block.Goals as goal
 
 -- where the walk counts, every block fits and is counted
-all-counted : (counted : In-Blocks) → (every fits (blocks_of counted.args.octets.now) ≡ true) × (counted.in-Blocks.count ≡ length (blocks_of counted.args.octets.now))
-all-counted counted =
+all_counted : (counted : In-Blocks) → (every fits (blocks_of counted.args.octets.now) ≡ true) × (counted.in-Blocks.count ≡ length (blocks_of counted.args.octets.now))
+all_counted counted =
     walked_count counted.args.octets.now _ (ap says_walk (sym counted.in-Blocks.is) ∙ counted.walk_blocks-walked.ensures)
 
 pub returns-in_default : goal.returns-in_default
@@ -23,13 +23,13 @@ returns-in_default c =
 pub returns-then-count-number : goal.returns-then-count-number
 returns-then-count-number c =
     let args = c.args in
-    c.no_block-then-count-number.ensures ∙ found_past args.octets.now args.number (omega (arith, (all-counted (goal.at.returns-then-count-number c).In-Blocks).1, c.if-count-number.true))
+    c.no_block-then-count-number.ensures ∙ found_past args.octets.now args.number (omega (arith, (all_counted (goal.at.returns-then-count-number c).In-Blocks).1, c.if-count-number.true))
 
 pub place_of-requires : goal.place_of-requires
 place_of-requires c =
-    record { octets_value = (all-counted (goal.at.place_of-requires c).In-Blocks).0; number_in_bounds = omega (arith, (all-counted (goal.at.place_of-requires c).In-Blocks).1, c.if-count-number.false) }
+    record { octets_value = (all_counted (goal.at.place_of-requires c).In-Blocks).0; number_in_bounds = omega (arith, (all_counted (goal.at.place_of-requires c).In-Blocks).1, c.if-count-number.false) }
 
 pub returns : goal.returns
 returns c =
     let args = c.args in
-    c.block_at.ensures ∙ ap (block_at args.octets.now) c.place_of.ensures ∙ found_there args.octets.now args.number (all-counted (goal.at.returns c).In-Blocks).0 (omega (arith, (all-counted (goal.at.returns c).In-Blocks).1, c.if-count-number.false))
+    c.block_at.ensures ∙ ap (block_at args.octets.now) c.place_of.ensures ∙ found_there args.octets.now args.number (all_counted (goal.at.returns c).In-Blocks).0 (omega (arith, (all_counted (goal.at.returns c).In-Blocks).1, c.if-count-number.false))

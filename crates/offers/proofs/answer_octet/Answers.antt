@@ -22,12 +22,12 @@ use Rattle.offers.proofs.answer_octet.Goals.{After-call_function-part}
 use Rattle.offers.proofs.answer_octet.Goals as goal
 
 -- our own CM for the home function
-own-offer : (own : Record) (offer : Offer) (modes : Modes) → offer ≡ cm_offer_of own own.home modes → modes ≡ in_use own own.home → offer ≡ cm_offer own own.home
-own-offer own offer modes made used = made ∙ ap (λ (m : Modes). cm_offer_of own own.home m) used
+own_offer : (own : Record) (offer : Offer) (modes : Modes) → offer ≡ cm_offer_of own own.home modes → modes ≡ in_use own own.home → offer ≡ cm_offer own own.home
+own_offer own offer modes made used = made ∙ ap (λ (m : Modes). cm_offer_of own own.home m) used
 
 pub write_menu-size-requires : goal.write_menu-size-requires
 write_menu-size-requires c =
-    record { call_value = rw (own-offer c.args.own _ _ c.cm_offer-offer.ensures c.in_use.ensures) c.category_octet-call.ensures; offer_in_bounds = menu_short c.cm_offer-offer.result }
+    record { call_value = rw (own_offer c.args.own _ _ c.cm_offer-offer.ensures c.in_use.ensures) c.category_octet-call.ensures; offer_in_bounds = menu_short c.cm_offer-offer.result }
 
 pub slice_bounds-call_function-end : goal.slice_bounds-call_function-end
 slice_bounds-call_function-end c =
@@ -41,7 +41,7 @@ part_is asked =
     let menu = menu_of house_count asked.cm_offer-offer.result in
     let written : take (size - 0) asked.write_menu-size.new.out ≡ menu = ap (λ (l : List ℕ). take (size - 0) l) asked.write_menu-size.ensures.buffer ∙ take_at menu _ (size - 0) (omega (arith, asked.write_menu-size.ensures.count)) in
     asked.call_function-part.ensures.result_value
-    ∙ ap (λ (l : List ℕ). call_function own asked.args.heard_cm.now l) (written ∙ ap (menu_of house_count) (own-offer own _ _ asked.cm_offer-offer.ensures asked.in_use.ensures))
+    ∙ ap (λ (l : List ℕ). call_function own asked.args.heard_cm.now l) (written ∙ ap (menu_of house_count) (own_offer own _ _ asked.cm_offer-offer.ensures asked.in_use.ensures))
     ∙ call_octet own asked.args.heard_cm.now asked.requires.own_value asked.requires.heard_cm_value (asked.type_inv.heard_cm 0).fits
 
 pub bounds-part-0 : goal.bounds-part-0

@@ -27,17 +27,17 @@ loop-i-init c =
 pub overflow_cast-b : goal.overflow_cast-b
 overflow_cast-b c = Fits-below {n = 255} tt (omega (arith, c.if-b-lt-NO_OCTET.true))
 
-n-fits : (body : In-loop-i) → Fits w64 (body.loop-i.n + 1)
-n-fits body = search rules
+n_fits : (body : In-loop-i) → Fits w64 (body.loop-i.n + 1)
+n_fits body = search rules
 
-i-fits : (body : In-loop-i) → Fits w64 (body.loop-i.i + 1)
-i-fits body = search rules
+i_fits : (body : In-loop-i) → Fits w64 (body.loop-i.i + 1)
+i_fits body = search rules
 
 pub overflow_add-n : goal.overflow_add-n
-overflow_add-n c = n-fits (goal.at.overflow_add-n c).In-loop-i
+overflow_add-n c = n_fits (goal.at.overflow_add-n c).In-loop-i
 
 pub overflow_add-i : goal.overflow_add-i
-overflow_add-i c = i-fits (goal.at.overflow_add-i c).In-loop-i
+overflow_add-i c = i_fits (goal.at.overflow_add-i c).In-loop-i
 
 pub loop-i-preserved : goal.loop-i-preserved
 loop-i-preserved c =
