@@ -38,7 +38,7 @@ fn structs_of(source: &str) -> Structs {
     let mut found = Structs::new();
     let mut lines = source.lines().map(str::trim);
     while lines.any(|line| line == "#[repr(C)]") {
-        let head = lines.next().unwrap_or_default();
+        let head = lines.by_ref().find(|line| !line.starts_with("#[")).unwrap_or_default();
         let Some(name) = head.strip_prefix("pub struct ").and_then(|rest| rest.strip_suffix(" {")) else { continue };
         let fields = lines.by_ref().take_while(|line| *line != "}").map(|line| {
             let (name, ty) = line.trim_start_matches("pub ").trim_end_matches(',').split_once(": ").expect("a field");

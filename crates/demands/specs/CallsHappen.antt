@@ -64,7 +64,7 @@ pub record CallsHappen : Type 0 where
   pub with_blocks : Happens 3 (for_data (1 ∷ 3 ∷ 4 ∷ 12 ∷ []) 0 1 0) (for_data (3 ∷ 4 ∷ 8 ∷ []) 0 0 0) (5 ∷ 0xB5 ∷ 0 ∷ 0x31 ∷ 0x2E ∷ 0x34 ∷ []) (lastly cj 0) (caller_has 3) (answerer_has 3 cj 0)
   -- where ANSam comes in the off period
   pub in_silence : Happens 3 (for_data (1 ∷ 3 ∷ 4 ∷ 12 ∷ []) 0 1 0) (for_data (3 ∷ 4 ∷ 8 ∷ []) 0 0 0) [] (lastly cj 0) (caller_has_silence 3) (answerer_has 3 cj 0)
-  -- without one, where "sig_c of the chosen item" comes for CJ
+  -- without one, where "sigC of the chosen item" comes for CJ
   pub by_sig_c : Happens 3 (for_data (1 ∷ 3 ∷ 4 ∷ 12 ∷ []) 0 1 0) (for_data (3 ∷ 4 ∷ 8 ∷ []) 0 0 0) [] (lastly sig_c 3) (caller_has 3) (answerer_has 3 sig_c 3)
   -- "caller with item 1, analogue PCM"; "Answerer with items 1, 3, digital PCM, digital line: .. choice PCM, b6."
   pub by_pcm : Happens 18 (for_data (1 ∷ []) 1 0 0) (for_data (1 ∷ 3 ∷ []) 2 0 1) [] (lastly cj 0) (caller_has 18) (answerer_has 18 cj 0)

@@ -69,11 +69,11 @@ pub record CallerGoesByTheTable (te chosen entry now : ℕ) (c : Cadence) : Type
 pub record AnswererGoesByTheTable (chosen entry now : ℕ) (c : Cadence) : Type 0 where
   -- "Answerer still", "elapsed 200: answering (sends ANSam)"
   pub still : (v : ℕ) → let s = session answerer 0 c answerer_still chosen entry in InTime s now → stepped s tick v now ≡ once_elapsed 200 s (enters s answering chosen now) now
-  -- "Answering", "agreed CM: joint (sends JM). sig_c, or elapsed 5,000: pause, then left"
+  -- "Answering", "agreed CM: joint (sends JM). sigC, or elapsed 5,000: pause, then left"
   pub on_cm : (choice : ℕ) → is_choice choice ≡ true → let s = session answerer 0 c answering chosen entry in InTime s now → stepped s agreed_cm choice now ≡ enters s joint choice now
   pub on_sig_c : (item : ℕ) → is_item item ≡ true → let s = session answerer 0 c answering chosen entry in InTime s now → stepped s sig_c item now ≡ enters s pause chosen now
   pub in_answering : (v : ℕ) → let s = session answerer 0 c answering chosen entry in InTime s now → stepped s tick v now ≡ once_elapsed 5000 s (enters s pause chosen now) now
-  -- "Joint", "CJ: pause, choice none: over, cleared. sig_c of the chosen item: pause. Elapsed 10,000 (house): over, late"
+  -- "Joint", "CJ: pause, choice none: over, cleared. sigC of the chosen item: pause. Elapsed 10,000 (house): over, late"
   pub on_cj : (v : ℕ) → let s = session answerer 0 c joint chosen entry in InTime s now → stepped s cj v now ≡ when (eqb chosen 0) (is_over s cleared chosen now) (enters s pause chosen now)
   pub on_chosen_sig_c : (item : ℕ) → is_item item ≡ true → let s = session answerer 0 c joint chosen entry in InTime s now → stepped s sig_c item now ≡ when (eqb item chosen) (enters s pause chosen now) (stays s)
   pub in_joint : (v : ℕ) → let s = session answerer 0 c joint chosen entry in InTime s now → stepped s tick v now ≡ once_elapsed 10000 s (is_over s late chosen now) now

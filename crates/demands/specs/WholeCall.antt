@@ -57,7 +57,7 @@ last_tick choice = when (eqb choice 0) [] (due tick 0 75 ∷ [])
 abbrev pub caller_order : ℕ → ℕ → List Due
 caller_order te choice = due tick 0 1000 ∷ due ansam 0 0 ∷ due tick 0 te ∷ due agreed_jm choice 0 ∷ due cj_sent 0 0 ∷ last_tick choice
 
--- what ends joint: "CJ: pause", or in its place "sig_c of the chosen item: pause"
+-- what ends joint: "CJ: pause", or in its place "sigC of the chosen item: pause"
 pub data EndsJoint (choice : ℕ) : Due → Type 0 where
   by_cj : EndsJoint choice (due cj 0 0)
   by_sig_c : is_item choice ≡ true → EndsJoint choice (due sig_c choice 0)

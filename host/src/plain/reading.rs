@@ -16,7 +16,7 @@ fn options(group: &[u8]) -> u8 {
 }
 
 fn items(modulation: &[u8]) -> u16 {
-    let five = |at| modulation.get(at).map_or(0, |&octet| u16::from(octet & 0x07 | octet >> 3 & 0x18));
+    let five = |at| modulation.get(at).map_or(0, |&octet: &u8| u16::from(octet & 0x07 | octet >> 3 & 0x18));
     u16::from(options(modulation)) | five(1) << 3 | five(2) << 8
 }
 
