@@ -1,6 +1,6 @@
 -- `plans::after_byte` meets its contract: the byte decides.
 -- Assumes nothing.
-use Rattle.std.proofs.Common.{sym}
+use Rattle.std.proofs.Common.{sym, arith}
 use Rattle.plans.proofs.Walk.{after_blank, after_feed, after_mark, after_other}
 use Rattle.plans.proofs.after_byte.Goals as goal
 
@@ -14,4 +14,4 @@ pub returns-in-35 : goal.returns-in-35
 returns-in-35 c = sym (after_mark c.args.b c.in-35.is)
 
 pub returns-in_default : goal.returns-in_default
-returns-in_default c = let none = c.in_default.in_default-own.rest in sym (after_other c.args.b none.0.0.1 none.0.1 none.1)
+returns-in_default c = sym (after_other c.args.b (omega arith) (omega arith) (omega arith))

@@ -1,6 +1,6 @@
 -- `plans::behind_name` meets its contract: the name decides.
 -- Assumes nothing.
-use Rattle.std.proofs.Common.{ne_eqb}
+use Rattle.std.proofs.Common.{ne_eqb, arith}
 use Rattle.laws.specs.Logic.{when}
 use Rattle.plans.proofs.behind_name.Goals as goal
 
@@ -18,4 +18,4 @@ returns-in-10 c = simp c.in-10.is
 
 pub returns-in_default : goal.returns-in_default
 unfolding when
-returns-in_default c = let none = c.in_default.in_default-own.rest in simp (ne_eqb _ _ none.0.0.1, ne_eqb _ _ none.0.1, ne_eqb _ _ none.1)
+returns-in_default c = simp (ne_eqb c.args.name 8 (omega arith), ne_eqb c.args.name 9 (omega arith), ne_eqb c.args.name 10 (omega arith))

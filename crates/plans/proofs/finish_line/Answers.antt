@@ -1,6 +1,6 @@
 -- `plans::finish_line` meets its contract: what may come next decides.
 -- Assumes nothing.
-use Rattle.std.proofs.Common.{sym, ◌∙◌, inl, inr, eq-eqb}
+use Rattle.std.proofs.Common.{sym, ◌∙◌, inl, inr, eq-eqb, arith}
 use Rattle.laws.specs.Logic.{when}
 use Rattle.plans.specs.Reading.{finish_line}
 use Rattle.plans.proofs.Cases.{line_ends, line_stands}
@@ -17,4 +17,4 @@ pub returns-in-9 : goal.returns-in-9
 returns-in-9 c = c.going-in-9.ensures ∙ sym (line_ends c.args.r (inr c.in-9.is))
 
 pub returns-in_default : goal.returns-in_default
-returns-in_default c = c.going-in_default.ensures ∙ sym (line_stands c.args.r c.in_default.in_default-own.rest.0.0.1 c.in_default.in_default-own.rest.0.1 c.in_default.in_default-own.rest.1)
+returns-in_default c = c.going-in_default.ensures ∙ sym (line_stands c.args.r (omega arith) (omega arith) (omega arith))

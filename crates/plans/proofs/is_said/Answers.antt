@@ -1,6 +1,6 @@
 -- `plans::is_said` meets its contract: the name of the line decides.
 -- Assumes nothing.
-use Rattle.std.proofs.Common.{eq-eqb, ne_eqb}
+use Rattle.std.proofs.Common.{eq-eqb, ne_eqb, arith}
 use Rattle.laws.specs.Logic.{when, either}
 use Rattle.plans.specs.Reading.{is_said}
 use Rattle.plans.proofs.is_said.Goals as goal
@@ -39,4 +39,4 @@ returns-else-plan-eq-STRANGER c = simp (c.set_at.ensures, c.in-1.is, ne_eqb _ _ 
 
 pub returns-in_default : goal.returns-in_default
 unfolding when is_said
-returns-in_default c = let none = c.in_default.in_default-own.rest in simp (c.set_at-in_default.ensures, ne_eqb _ _ none.0.0.0.0.0.0.1, ne_eqb _ _ none.0.0.0.0.0.1, ne_eqb _ _ none.0.0.0.0.1, ne_eqb _ _ none.0.0.0.1, ne_eqb _ _ none.0.0.1, ne_eqb _ _ none.0.1, ne_eqb _ _ none.1)
+returns-in_default c = let n = c.args.number in simp (c.set_at-in_default.ensures, ne_eqb n 5 (omega arith), ne_eqb n 6 (omega arith), ne_eqb n 7 (omega arith), ne_eqb n 8 (omega arith), ne_eqb n 9 (omega arith), ne_eqb n 10 (omega arith), ne_eqb n 1 (omega arith))

@@ -1,6 +1,6 @@
 -- `plans::name_word` meets its contract: what may come next and the kind of what the word names decide.
 -- Assumes nothing.
-use Rattle.std.proofs.Common.{ℕ, sym, ◌∙◌, rules}
+use Rattle.std.proofs.Common.{ℕ, sym, ◌∙◌, rules, arith}
 use Rattle.names.specs.declared.Meaning.{Meaning}
 use Rattle.plans.proofs.Cases.{function_in_end, mode_first_lem, mode_said, said, part_in_end, end_at_begin, line_at_begin, home_twice, home_said, function_after_call, end_after_damaged, otherwise}
 use Rattle.plans.proofs.name_word.Goals as goal
@@ -42,4 +42,4 @@ pub returns-in-263 : goal.returns-in-263
 returns-in-263 c = c.begin_named-in-263.ensures ∙ sym (end_after_damaged c.args.r (meant c.args.kind c.args.n) (search rules) c.in-263.is)
 
 pub returns-in_default : goal.returns-in_default
-returns-in_default c = let none = c.in_default.in_default-own.rest in c.going-in_default.ensures ∙ sym (otherwise c.args.r (meant c.args.kind c.args.n) (search rules) none.0.0.0.0.0.0.0.0.1 none.0.0.0.0.0.0.0.1 none.0.0.0.0.0.0.1 none.0.0.0.0.0.1 none.0.0.0.0.1 none.0.0.0.1 none.0.0.1 none.0.1 none.1)
+returns-in_default c = c.going-in_default.ensures ∙ sym (otherwise c.args.r (meant c.args.kind c.args.n) (search rules) (omega arith) (omega arith) (omega arith) (omega arith) (omega arith) (omega arith) (omega arith) (omega arith) (omega arith))

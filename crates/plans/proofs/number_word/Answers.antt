@@ -1,6 +1,6 @@
 -- `plans::number_word` meets its contract: what may come next decides, and a number that is taken is in its range, and so fits.
 -- Assumes nothing.
-use Rattle.std.proofs.Common.{sym, ◌∙◌, ne_eqb}
+use Rattle.std.proofs.Common.{sym, ◌∙◌, ne_eqb, arith}
 use mir.Facts.{Fits-below}
 use Rattle.laws.specs.Logic.{when}
 use Rattle.steps.proofs.Ticks.{between_true}
@@ -54,4 +54,4 @@ returns-else-is_answer c = simp (c.going-in-25.ensures, c.in-25.is, sym c.is_ans
 
 pub returns-in_default : goal.returns-in_default
 unfolding number_word when
-returns-in_default c = let none = c.in_default.in_default-own.rest in simp (c.listed.ensures, ne_eqb _ _ none.0.0.0.1, ne_eqb _ _ none.0.0.1, ne_eqb _ _ none.0.1, ne_eqb _ _ none.1)
+returns-in_default c = let context = c.args.r.context in simp (c.listed.ensures, ne_eqb context 6 (omega arith), ne_eqb context 23 (omega arith), ne_eqb context 24 (omega arith), ne_eqb context 25 (omega arith))

@@ -1,6 +1,6 @@
 -- `plans::piece_at` meets its contract: each number has its piece.
 -- Assumes nothing.
-use Rattle.std.proofs.Common.{[], append-nil, ne_eqb}
+use Rattle.std.proofs.Common.{[], append-nil, ne_eqb, arith}
 use Rattle.laws.specs.Logic.{when}
 use Rattle.names.specs.Names.{quality}
 use Rattle.plans.specs.Inner.{piece_text}
@@ -23,5 +23,4 @@ pub returns-in_default : goal.returns-in_default
 unfolding piece_text when
 returns-in_default c =
     let k = c.args.k in
-    let others = c.in_default.in_default-own.rest in
-    writes_as _ _ c.function_piece.ensures (simp (c.set_at-set.ensures, ne_eqb k 0 others.0.0.1, ne_eqb k 7 others.0.1, ne_eqb k 8 others.1))
+    writes_as _ _ c.function_piece.ensures (simp (c.set_at-set.ensures, ne_eqb k 0 (omega arith), ne_eqb k 7 (omega arith), ne_eqb k 8 (omega arith)))

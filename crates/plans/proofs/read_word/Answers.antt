@@ -1,6 +1,6 @@
 -- `plans::read_word` meets its contract: what may come next decides.
 -- Assumes nothing.
-use Rattle.std.proofs.Common.{sym, ◌∙◌, inl, inr}
+use Rattle.std.proofs.Common.{sym, ◌∙◌, inl, inr, arith}
 use Rattle.plans.proofs.Cases.{number_asked, octet_asked, name_asked}
 use Rattle.plans.proofs.read_word.Goals as goal
 
@@ -32,5 +32,4 @@ returns-in-21 c =
 pub returns-in_default : goal.returns-in_default
 returns-in_default c =
     let args = c.args in
-    let none = c.in_default.in_default-own.rest in
-    c.name_word.ensures ∙ sym (name_asked args.r args.word.now _ c.named-m.ensures none.0.0.0.0.1 none.0.0.0.1 none.0.0.1 none.0.1 none.1)
+    c.name_word.ensures ∙ sym (name_asked args.r args.word.now _ c.named-m.ensures (omega arith) (omega arith) (omega arith) (omega arith) (omega arith))
