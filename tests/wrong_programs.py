@@ -8,7 +8,7 @@ names each, and the function or law that has to be refused for it. `rt ci` shows
 be refused by itself: because a fact about it fails, and not because something that it uses was refused, nor because a name is missing.
 What waits for a callee that is refused too is tried again, without those that were refused before, until nothing more is refused.
 Prints each that is not refused so, and last how many there were; exits with 1 where there is one, and with 2 where there is nothing to try.
-The checks are made in copies of the crates below target/wrong-programs, one for each of N workers, where the logs stay.
+The checks are made in copies of the crates outside of this folder, one for each of N workers; the logs stay in target/wrong-programs.
 With --edits, FOLDER/NAME/must-fail stands for crates/NAME/must-fail.
 """
 import argparse
@@ -20,6 +20,7 @@ import re
 import shutil
 import subprocess
 import sys
+import tempfile
 import threading
 
 MISSING = re.compile(
@@ -28,6 +29,8 @@ MISSING = re.compile(
 ERROR = re.compile(r"^(?:\./)?(proofs|specs|src)/(\S+?):\d+:\d+: error: (?:`([^`]*)`: )?(.*)")
 OPEN = re.compile(r"^fn (?:\w+::)*(\w+): no proof: .*did not prove")
 WRONG = re.compile(r"^wrong: (\S+) in (\S+)$")
+
+LOGS = os.path.join("target", "wrong-programs")
 
 Program = collections.namedtuple("Program", "label place file old new")
 
@@ -134,7 +137,7 @@ def work(tree, root, tasks, edits_of, said, lock):
             crate = tasks.get_nowait()
         except queue.Empty:
             return
-        logs = os.path.join(root, "target", "wrong-programs", "logs", crate)
+        logs = os.path.join(root, LOGS, crate)
         os.makedirs(logs, exist_ok=True)
         status, log = check(tree, crate)
         found = []
@@ -162,26 +165,25 @@ def main():
     if not edits_of:
         print("no edits")
         return 2
-    home = os.path.join(root, "target", "wrong-programs")
-    shutil.rmtree(os.path.join(home, "logs"), ignore_errors=True)
+    shutil.rmtree(os.path.join(root, LOGS), ignore_errors=True)
     tasks, said, lock, workers = queue.Queue(), [], threading.Lock(), []
     for name in order:
         if name in edits_of:
             tasks.put(name)
-    for at in range(min(asked.trees, len(edits_of))):
-        tree = os.path.join(home, f"tree{at}")
-        for name in order:
-            for part in ("src", "specs", "proofs"):
-                shutil.rmtree(os.path.join(tree, "crates", name, part), ignore_errors=True)
-                if os.path.isdir(os.path.join(root, "crates", name, part)):
-                    shutil.copytree(os.path.join(root, "crates", name, part), os.path.join(tree, "crates", name, part))
-        shutil.copy(os.path.join(root, "crates.txt"), tree)
-        os.makedirs(os.path.join(tree, ".git"), exist_ok=True)
-        workers.append(threading.Thread(target=work, args=(tree, root, tasks, edits_of, said, lock)))
-    for worker in workers:
-        worker.start()
-    for worker in workers:
-        worker.join()
+    with tempfile.TemporaryDirectory() as home:
+        for at in range(min(asked.trees, len(edits_of))):
+            tree = os.path.join(home, f"tree{at}")
+            for name in order:
+                for part in ("src", "specs", "proofs"):
+                    if os.path.isdir(os.path.join(root, "crates", name, part)):
+                        shutil.copytree(os.path.join(root, "crates", name, part), os.path.join(tree, "crates", name, part))
+            shutil.copy(os.path.join(root, "crates.txt"), tree)
+            os.mkdir(os.path.join(tree, ".git"))
+            workers.append(threading.Thread(target=work, args=(tree, root, tasks, edits_of, said, lock)))
+        for worker in workers:
+            worker.start()
+        for worker in workers:
+            worker.join()
     tries = sum(len(edits) for edits in edits_of.values())
     count = sum(len(programs(edit)) for edits in edits_of.values() for edit in edits)
     print(f"{count} wrong programs in {tries} edits, {len(said)} not refused where they are wrong")
