@@ -6,7 +6,7 @@ use mathlib.Core.Path.{◌≡◌}
 use mathlib.Core.Bool.{true}
 use borrow.Author.Tests.{leb-true, ltb-true}
 use lib.Dec.{ltb, eqb, lit≤}
-use Rattle.laws.specs.Logic.{when, both}
+use Rattle.laws.specs.Logic.{both}
 use Rattle.laws.proofs.Logic.{either_way, both_true}
 use Rattle.octets.specs.declared.Kind.TheVariants.{Ci, Menu}
 use Rattle.octets.specs.Octets.{bad}
