@@ -120,7 +120,9 @@ fn reached(first: &BTreeSet<String>, calls: &BTreeMap<String, BTreeSet<String>>)
 fn names_in(krate: &str) -> BTreeSet<String> {
     let mut names = BTreeSet::new();
     let is_name = |c: char| !c.is_whitespace() && !"(){};,:".contains(c);
-    for path in files(&root().join("crates").join(krate)) {
+    let folder = root().join("crates").join(krate);
+    // What a check leaves in `out/` has copies of sources, those of other crates among them.
+    for path in files(&folder).into_iter().filter(|path| !path.starts_with(folder.join("out"))) {
         let stem = path.file_stem().unwrap_or_default().to_string_lossy().to_string();
         match path.extension().and_then(|e| e.to_str()) {
             Some("antt") => {

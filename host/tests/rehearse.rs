@@ -498,7 +498,7 @@ fn rehearsed(call: &str) -> String {
         .stdin(Stdio::piped())
         .stdout(Stdio::piped())
         .spawn()
-        .unwrap_or_else(|error| panic!("{}: {error}; `rt check rehearse` makes it", program.display()));
+        .unwrap_or_else(|error| panic!("{}: {error}; `make programs` makes it", program.display()));
     child.stdin.take().expect("a pipe").write_all(call.as_bytes()).expect("the program reads the text");
     let output = child.wait_with_output().expect("the program ends");
     assert!(output.status.success(), "{}: {call}", output.status);

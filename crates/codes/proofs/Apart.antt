@@ -1,4 +1,4 @@
--- No two choices, answers, reports, places or items asked for share a number: each is found again from its number, where an item is one from 1 to 12, PCM options
+-- No two choices, answers, spans, places or items asked for share a number: each is found again from its number, where an item is one from 1 to 12, PCM options
 -- are some, an answer is one that a step can give, a place is below 64, and a refusal has a number.
 -- Assumes nothing.
 use Prim.Native.Nat.{ℕ, zero, suc, ◌+◌, ◌-◌}
@@ -16,8 +16,6 @@ use Rattle.steps.specs.Session.{is_item}
 use Rattle.steps.specs.Stepping.{Answered, same, entered, ended, go_on, refusal}
 use Rattle.steps.proofs.Ticks.{between_true}
 use Rattle.steps.proofs.Answers.{possible_answer}
-use Rattle.listening.specs.Hearing.{Told, silence, ci, menu, cj}
-use Rattle.listening.specs.Hearing as hearing
 use Rattle.listening.specs.Spans.{Spanned, spans}
 use Rattle.listening.specs.Spans as spanning
 use Rattle.menus.specs.Groups.{Looked, place, nowhere}
@@ -26,7 +24,7 @@ use Rattle.menus.specs.Asking.{Asked, answer}
 use Rattle.menus.specs.Asking as asking
 use Rattle.codes.specs.Choosing.{choice_code}
 use Rattle.codes.specs.Steps.{step_code}
-use Rattle.codes.specs.Hearing.{told_code, told_span, span_code}
+use Rattle.codes.specs.Hearing.{span_code}
 use Rattle.codes.specs.Reading.{looked_code, asked_code, asked_count}
 
 -- a choice that is known by its number
@@ -74,31 +72,6 @@ answer_back (refusal (suc n)) known = refl
 
 pub step_code_injective : (a b : Answered) → possible_answer a ≡ true → possible_answer b ≡ true → step_code a ≡ step_code b → a ≡ b
 step_code_injective a b p q e = sym (answer_back a p) ∙ ap answer_from e ∙ answer_back b q
-
--- and a report
-abbrev pub known_report : Told → Bool
-known_report silence = true
-known_report (ci span) = true
-known_report (menu agreed span) = true
-known_report cj = true
-known_report (hearing.refusal n) = ltb 0 n
-
-abbrev report_from : ℤ → ℕ → Told
-report_from (pos n) span = when (eqb n 0) silence (when (eqb n 1) (ci span) (when (eqb n 2) (menu false span) (when (eqb n 3) (menu true span) cj)))
-report_from (negsuc n) span = hearing.refusal (suc n)
-
-report_back : (t : Told) → known_report t ≡ true → report_from (told_code t) (told_span t) ≡ t
-unfolding when
-report_back silence known = refl
-report_back (ci span) known = refl
-report_back (menu false span) known = refl
-report_back (menu true span) known = refl
-report_back cj known = refl
-report_back (hearing.refusal zero) known = clash (sym known)
-report_back (hearing.refusal (suc n)) known = refl
-
-pub told_code_injective : (t u : Told) → known_report t ≡ true → known_report u ≡ true → told_code t ≡ told_code u → told_span t ≡ told_span u → t ≡ u
-told_code_injective t u p q e Alike = sym (report_back t p) ∙ ap₂ report_from e Alike ∙ report_back u q
 
 -- and the span of the message reported last
 abbrev pub known_span : Spanned → Bool
@@ -157,4 +130,4 @@ asked_back (asking.refusal zero) known = clash (sym known)
 asked_back (asking.refusal (suc n)) known = refl
 
 pub asked_code_injective : (a b : Asked) → known_asked a ≡ true → known_asked b ≡ true → asked_code a ≡ asked_code b → asked_count a ≡ asked_count b → a ≡ b
-asked_code_injective a b p q e Alike = sym (asked_back a p) ∙ ap₂ asked_from e Alike ∙ asked_back b q
+asked_code_injective a b p q e alike = sym (asked_back a p) ∙ ap₂ asked_from e alike ∙ asked_back b q

@@ -11,7 +11,7 @@ use Rattle.laws.specs.Tests.{every}
 use Rattle.octets.specs.declared.Kind.{Kind}
 use Rattle.octets.specs.declared.Kind.TheVariants.{Ci, Menu}
 use Rattle.octets.specs.Lists.{first_fault}
-use Rattle.refusals.specs.Lent.{count, room_fault}
+use Rattle.refusals.specs.Lent.{room_fault}
 use Rattle.refusals.proofs.Outcomes.{counted}
 use Rattle.sequences.specs.Line.{framed, framed_all, sync, v92_sync}
 use Rattle.sequences.specs.Line.{cj as cjBits}

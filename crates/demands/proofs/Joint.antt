@@ -1,7 +1,7 @@
 -- The JM that is made holds exactly what is shared, and what is made reads back as it was meant. What is read back is the draft, and the
 -- draft's set of items and its PCM options hold a bit exactly where both ends do; item 0 is apart from the others.
 -- Assumes nothing.
-use Prim.Native.Nat.{ℕ, zero, suc, ◌<◌, ◌≤◌, ◌+◌, ◌*◌, ◌/◌, ◌%◌, ◌^◌}
+use Prim.Native.Nat.{ℕ, zero, suc, ◌<◌, ◌+◌, ◌*◌, ◌/◌, ◌%◌, ◌^◌}
 use native.Mathlib.Nat.{one-mul}
 use native.Mathlib.Omega.{arith}
 use mathlib.Core.Path.{◌≡◌, refl, sym, ap, ap₂, ◌∙◌}
@@ -16,26 +16,25 @@ use Rattle.laws.proofs.Logic.{either_way, both_neither, bit_of_test}
 use Rattle.menus.specs.declared.Offer.{Offer}
 use Rattle.items.specs.Items.{in_set, modulation}
 use Rattle.menus.specs.Groups.{group_of}
-use Rattle.menus.specs.Offer.{pcm_tag, protocol, access, offer_of, offers}
+use Rattle.menus.specs.Offer.{pcm_tag, protocol, access, offer_of}
 use Rattle.items.proofs.Bits.{in_both, same_half}
 use Rattle.items.proofs.Sets.{none_in, past_set}
-use Rattle.menus.proofs.Reading.{menu_read_lem}
 use Rattle.records.specs.declared.Modes.{Modes}
 use Rattle.records.specs.declared.Record.{Record}
 use Rattle.records.specs.Record.{flag, no_modes, modes_at, in_use}
 use Rattle.offers.specs.Offering.{bit, with_item_0, access_options, cm_access, cm_offer, with_item_1, shared_items, jm_pcm, jm_offer, with_items}
 use Rattle.menus.specs.Pcm.{analogue, digital, v91, paired}
 use Rattle.offers.specs.Making.{house_count, menu_of, modulation_count}
-use Rattle.offers.proofs.Making.{modulation_length, bit_small, size_fits}
-use Rattle.offers.proofs.Meaning.{Sayable, menu_readable, menu_writable, modulation_found, pcm_found, protocol_found, access_found, read_with, read_back, jm_items}
-use Rattle.offers.proofs.Fields.{no_field, own_field, other_group, offer_kept, with_readable, with_writable}
+use Rattle.offers.proofs.Making.{modulation_length, bit_small}
+use Rattle.offers.proofs.Meaning.{Sayable, modulation_found, pcm_found, protocol_found, access_found, read_with, read_back, jm_items}
+use Rattle.offers.proofs.Fields.{no_field, own_field, other_group, offer_kept}
 use Rattle.offers.proofs.Saying.{cm_sayable, jm_sayable}
-use Rattle.demands.specs.Joint.{AcceptedRecord, cm_of, jm_of, jm_says, has, StandsInOrder, MenusAreOfTheHouse, filled_in, is_available, has_for, pcm_for, says_cellular, SaysWhatTheRecordHas, HoldsWhatBothHave, HoldsWhatBothRecordsHave, IsReadBack}
+use Rattle.demands.specs.Joint.{AcceptedRecord, cm_of, jm_of, jm_says, has, StandsInOrder, MenusAreOfTheHouse, filled_in, is_available, has_for, pcm_for, says_cellular, SaysWhatTheRecordHas, HoldsWhatBothHave, HoldsWhatBothRecordsHave}
 use Rattle.demands.specs.OneChoice.{Call}
 use Rattle.demands.proofs.Shared.{has_read, crosswise}
 
 -- what was meant is read
-cm_back : (own : Record) → AcceptedRecord own → (function : ℕ) (blocks : List ℕ) → (in_use own function).available ≡ 1 → offer_of (cm_of own function blocks) ≡ cm_offer own function
+pub cm_back : (own : Record) → AcceptedRecord own → (function : ℕ) (blocks : List ℕ) → (in_use own function).available ≡ 1 → offer_of (cm_of own function blocks) ≡ cm_offer own function
 cm_back own good function blocks there = offer_kept (cm_offer own function) blocks ∙ read_back (cm_offer own function) (cm_sayable own good.six good.good function there)
 
 module _ (own : Record) (heard : List ℕ) where
@@ -57,12 +56,6 @@ module _ (own : Record) (heard : List ℕ) where
         read_with counted offered sayable
         ∙ ap (with_items offered) (jm_items offered heard sayable.items ∙ ap (λ (n : ℕ). when (ltb 0 n) offered.items 0) (sym group_counted))
 
-    pub jm_is_read_back : length (jm_of own heard) ≤ 64 → IsReadBack (jm_of own heard) (jm_says own heard)
-    jm_is_read_back fits = record {
-      written = menu_writable counted offered fits;
-      read = menu_read_lem (jm_of own heard) (menu_readable counted offered fits) ∙ ap offers jm_back;
-    }
-
   -- item 0 may be missing where it stands alone, and no other
   pub item_said : (i : ℕ) → 0 < i → in_set (jm_says own heard).items i ≡ in_set offered.items i
   unfolding when
@@ -71,12 +64,6 @@ module _ (own : Record) (heard : List ℕ) where
       (λ _. refl)
       (λ few. either_way (λ (items : ℕ). in_set items i ≡ in_set offered.items i) (ltb 0 (length (group_of heard modulation))) offered.items 0 (λ _. refl)
       (λ _. none_in i ∙ sym (past_set 1 offered.items i (omega (arith, ltb-false 1 offered.items few)) low))))
-
-pub cm_is_read_back : (own : Record) → AcceptedRecord own → (function : ℕ) (blocks : List ℕ) → (in_use own function).available ≡ 1 → length (cm_of own function blocks) ≤ 64 → IsReadBack (cm_of own function blocks) (cm_offer own function)
-cm_is_read_back own good function blocks there short = record {
-  written = with_writable (cm_offer own function) blocks (size_fits (cm_of own function blocks) short);
-  read = menu_read_lem (cm_of own function blocks) (with_readable (cm_offer own function) blocks (size_fits (cm_of own function blocks) short)) ∙ ap offers (cm_back own good function blocks there);
-}
 
 -- how a menu is put together: three octets, and each group behind the last
 cm_count : (own : Record) (function : ℕ) (blocks : List ℕ) → length (group_of (cm_of own function blocks) modulation) ≡ 3

@@ -5,6 +5,7 @@ pub mod RefusalOrder
 pub mod NotRefused
 pub mod Shared
 pub mod Joint
+pub mod ReadBack
 pub mod Looking
 pub mod Asking
 pub mod FieldBlocks
@@ -22,6 +23,7 @@ pub mod CallsHappen
 pub mod Sounding
 pub mod FromBits
 pub mod OwnFields
+pub mod Told
 pub mod Numbers
 pub mod Repeated
 pub mod Heard

@@ -1,13 +1,13 @@
 -- Every number that comes is one that the header lists, by the cases of each answer and tests computed over the few numbers there are; what
 -- can come is known by its number, so no two share one. And a choice goes to its number and back.
 -- Assumes nothing.
-use Prim.Native.Nat.{ℕ, zero, suc, ◌<◌, ◌≤◌, ◌+◌, ◌%◌}
+use Prim.Native.Nat.{ℕ, zero, suc, ◌<◌, ◌≤◌, ◌+◌}
 use native.Mathlib.Omega.{arith}
 use mathlib.Core.Path.{◌≡◌, refl, sym, ap, subst, ◌∙◌}
 use mathlib.Core.Bool.{Bool, true, false}
 use mathlib.Core.List.{List, [], ◌∷◌}
 use mathlib.Core.Logic.{⊎_elim}
-use borrow.Author.Tests.{lt-ltb, ltb-false, le-leb, eq-eqb, ne_eqb, eqb-true, eqb-false}
+use borrow.Author.Tests.{lt-ltb, ltb-false, le-leb, ne_eqb, eqb-true, eqb-false}
 use lib.Dec.{T, ltb, eqb}
 use lib.IntN.{pos}
 use lib.ListN.{length, take, drop}
@@ -36,13 +36,9 @@ use Rattle.offers.specs.Offering.{cm_offer, jm_offer}
 use Rattle.offers.specs.Making.{house_count, record_fault, function_fault, with_field, modulation_count}
 use Rattle.offers.proofs.Making.{menu_length, menu_short, with_length, size_short}
 use Rattle.choices.specs.Choosing.{Chosen, none, item, pcm, refusal, choice_of}
-use Rattle.framing.specs.Framing.{report}
 use Rattle.listening.specs.declared.Listener.{Listener}
 use Rattle.listening.specs.Record as record_of
 use Rattle.listening.specs.Hearing.{Told, silence, ci, menu, cj, ManyOutcome, span_of, told, heard_bit, heard_bits}
-use Rattle.listening.specs.Spans.{Spanned, spanned, last_span}
-use Rattle.listening.specs.Spans as spanning
-use Rattle.listening.proofs.Ranges as record-ranges
 use Rattle.listening.specs.Hearing as hearing
 use Rattle.steps.specs.declared.Session.{Session}
 use Rattle.steps.specs.Table.{over, agreed_jm, agreed_cm}
@@ -54,25 +50,23 @@ use Rattle.steps.proofs.Ticks.{between_true}
 use Rattle.steps.proofs.Answers.{possible_answer, answer_is_possible}
 use Rattle.codes.specs.Choosing.{choice_code}
 use Rattle.codes.specs.Steps.{nothing_carried, step_code}
-use Rattle.codes.specs.Hearing.{told_code, span_code}
+use Rattle.codes.specs.Hearing.{told_code}
 use Rattle.codes.specs.Reading.{looked_code, asked_code, asked_count}
-use Rattle.codes.proofs.Apart.{known_choice, choice_code_injective, step_code_injective, known_report, told_code_injective, known_span, span_code_injective, known_place, looked_code_injective, known_asked, asked_code_injective}
+use Rattle.codes.proofs.Apart.{known_choice, choice_code_injective, step_code_injective, span_code_injective, known_place, looked_code_injective, asked_code_injective}
+use Rattle.codes.proofs.ApartReports.{known_report, told_code_injective}
 use Rattle.demands.specs.Joint.{jm_of}
 use Rattle.demands.specs.WholeCall.{carried}
 use Rattle.demands.specs.Shared.{NotShared, cm_unread, jm_unread, item_missing, none_pairs, Shared}
 use Rattle.stretches.specs.Hearing.{once_heard}
 use Rattle.demands.specs.Refusals.{one_of, RefusedBitsLeaveWhatIsLaidDown}
 use Rattle.demands.proofs.Refusals.{behind_first, refusals_leave_what_is_laid_down}
-use Rattle.demands.specs.Numbers.{choice_number, step_number, heard_number, span_number, place_number, asked_number, NumbersAreToldApart, as_chosen, ChoicesAreHandedOver}
+use Rattle.demands.specs.Numbers.{choice_number, step_number, heard_number, place_number, NumbersAreToldApart, as_chosen, ChoicesAreHandedOver}
 use Rattle.demands.proofs.Shared.{choice_is_shared}
+use Rattle.demands.proofs.Told.{in_range_lem, looks_at, TellsAsked, offered_code, span_tells}
 
 -- what is computed of every number below a limit, where a test holds
 among : (f g : ℕ → Bool) (limit : ℕ) → T (all_below (λ n. when (f n) (g n) true) limit) → (n : ℕ) → n < limit → f n ≡ true → g n ≡ true
 among f g limit computed n small holds = is_so (g n) (taken_if (f n) (g n) true (below (λ k. when (f k) (g k) true) limit computed n small) holds)
-
-in_range_lem : (low high n : ℕ) → low < suc n → n < suc high → between low high n ≡ true
-unfolding both
-in_range_lem low high n from to = simp (le-leb low n (omega (arith, from)), le-leb n high (omega (arith, to)))
 
 -- reading refuses with 3, 4 or 5
 data Reads : ℕ → Type 0 where
@@ -197,23 +191,9 @@ looked_tells octets t =
     (λ refused. unread_tells (list_read octets) (eqb-false (list_fault Reading octets) 0 refused))
 
 -- what asking for an item answers
-abbrev looks_at : Asked → ℕ
-looks_at (answer offered n) = n
-looks_at (asking.refusal n) = 1
-
-record TellsAsked (a : Asked) : Type 0 where
-  number : asked_number (asked_code a) ≡ true
-  known : known_asked a ≡ true
-  looks : between 1 64 (looks_at a) ≡ true
-
 answer_tells : (offered : Bool) (n : ℕ) → 0 < n → n ≤ 64 → TellsAsked (answer offered n)
 answer_tells true n low high = record { number = refl; known = refl; looks = in_range_lem 1 64 n (omega (arith, low)) (omega (arith, high)) }
 answer_tells false n low high = record { number = refl; known = refl; looks = in_range_lem 1 64 n (omega (arith, low)) (omega (arith, high)) }
-
-offered_code : (offered : Bool) (n : ℕ) → asked_code (answer offered n) ≡ pos (when offered 1 0)
-unfolding when
-offered_code true n = refl
-offered_code false n = refl
 
 unasked_tells : {n : ℕ} → Reads n → (n ≡ 0 → ⊥) → TellsAsked (asking.refusal n)
 unfolding either both
@@ -288,24 +268,6 @@ many_listed rec bits n false e told = rw (sym (ap number_told (sym (ap (λ (o : 
 many_tells : (rec : Listener) (bits : List ℕ) → TellsReport (heard_bits rec bits).report
 many_tells rec bits = told_tells (heard_bits rec bits).report (λ n. many_listed rec bits n (record_of.in_range rec) refl)
 
--- a span that is asked for
-record TellsSpan (s : Spanned) : Type 0 where
-  number : span_number (span_code s) ≡ true
-  known : known_span s ≡ true
-
-span_tells : (rec : Listener) → TellsSpan (last_span rec)
-unfolding last_span spanned either both
-span_tells rec =
-    either_way TellsSpan (record_of.in_range rec) (spanned rec.last) (spanning.refusal 10)
-    (λ inside.
-    let few = (record-ranges.range_fits rec inside).last.len in
-    either_way TellsSpan (eqb rec.last.kind 0) spanning.none (spanning.spans (span_of rec.last.len)) (λ _. record { number = refl; known = refl })
-    (λ _. record {
-      number = simp (ne_eqb (span_of rec.last.len) 0 (λ z. omega (arith, z)), in_range_lem 20 660 (span_of rec.last.len) (omega arith) (omega (arith, few)), eq-eqb (span_of rec.last.len % 10) 0 (omega arith));
-      known = lt-ltb 0 (span_of rec.last.len) (omega arith);
-    }))
-    (λ _. record { number = refl; known = refl })
-
 pub numbers_are_told_apart : NumbersAreToldApart
 numbers_are_told_apart = record {
   choices = λ cm jm. (choice_tells cm jm).number;
@@ -313,14 +275,14 @@ numbers_are_told_apart = record {
   steps = λ s event value now. answer_number (stepped s event value now).answer (answer_is_possible s event value now);
   steps_apart = λ s s' event event' value value' now now' e. step_code_injective _ _ (answer_is_possible s event value now) (answer_is_possible s' event' value' now') e;
   reports = λ rec bit. (heard_tells rec bit).number;
-  reports_apart = λ rec rec' bit bit' e Alike. told_code_injective _ _ (heard_tells rec bit).known (heard_tells rec' bit').known e Alike;
+  reports_apart = λ rec rec' bit bit' e alike. told_code_injective _ _ (heard_tells rec bit).known (heard_tells rec' bit').known e alike;
   many_reports = λ rec bits. (many_tells rec bits).number;
   spans = λ rec. (span_tells rec).number;
   spans_apart = λ rec rec' e. span_code_injective _ _ (span_tells rec).known (span_tells rec').known e;
   places = λ octets t. (looked_tells octets t).number;
   places_apart = λ octets octets' t t' e. looked_code_injective _ _ (looked_tells octets t).known (looked_tells octets' t').known e;
   asks = λ octets i. (asked_tells octets i).number;
-  asks_apart = λ octets octets' i i' e Alike. asked_code_injective _ _ (asked_tells octets i).known (asked_tells octets' i').known e Alike;
+  asks_apart = λ octets octets' i i' e alike. asked_code_injective _ _ (asked_tells octets i).known (asked_tells octets' i').known e alike;
   looked = λ octets i offered n told. subst (λ (a : Asked). between 1 64 (looks_at a) ≡ true) told (asked_tells octets i).looks;
   told = λ octets i offered n e. (ap asked_code e ∙ offered_code offered n, ap asked_count e);
   cm_size = λ own function blocks out size told.
@@ -343,7 +305,7 @@ numbers_are_told_apart = record {
       let told-all = counted _ menu out size told in
       let short = size_short menu (behind_first (record_fault own ∷ list_fault Reading heard ∷ []) _ _ told-all.fine) in
       in_range_lem 1 64 size (omega (arith, told-all.all, menu_length (modulation_count jm heard) jm)) (omega (arith, told-all.all, short));
-  many_reports_apart = λ rec rec' bits bits' e Alike. told_code_injective _ _ (many_tells rec bits).known (many_tells rec' bits').known e Alike;
+  many_reports_apart = λ rec rec' bits bits' e alike. told_code_injective _ _ (many_tells rec bits).known (many_tells rec' bits').known e alike;
 }
 
 -- an event that carries what it may not is refused with 9

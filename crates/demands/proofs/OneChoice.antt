@@ -47,10 +47,10 @@ from_both theirs ours = when (eqb (paired theirs ours % 4) 0) true (both (ltb 0 
 abbrev pairing : ℕ → ℕ → Bool
 pairing theirs ours = both (both (pairs theirs ours true) (pairs theirs ours false)) (from_both theirs ours)
 
-module _ (theirs ours : ℕ) (theirs-small : theirs < 8) (Ours-small : ours < 8) where
+module _ (theirs ours : ℕ) (theirs_small : theirs < 8) (ours_small : ours < 8) where
   computed : T (pairing theirs ours)
   unfolding paired when both all_below
-  computed = below (pairing theirs) 8 (below (λ (a : ℕ). all_below (pairing a) 8) 8 tt theirs theirs-small) ours Ours-small
+  computed = below (pairing theirs) 8 (below (λ (a : ℕ). all_below (pairing a) 8) 8 tt theirs theirs_small) ours ours_small
 
   pairs_again : (t : Bool) → paired theirs (with_item_1 t (paired theirs ours)) ≡ with_item_1 t (paired theirs ours)
   pairs_again true = eqb→eq _ _ (both_left (pairs theirs ours true) (pairs theirs ours false) (both_left _ (from_both theirs ours) computed))

@@ -270,26 +270,26 @@ one_before at rec bit bits n all quiet rest = record {
 -- or it is the first
 none_before : (at : ℕ) (rec : Listener) (bit : ℕ) (bits : List ℕ) (n : ℕ) (o : HearOutcome) → heard_bit rec bit ≡ o → o.report ≡ refusal n → RefusedFrom at rec (bit ∷ bits) n (taking o (at + 1))
 unfolding once_heard reports
-none_before at rec bit bits n o Alike e = record {
+none_before at rec bit bits n o alike e = record {
   before = [];
   bit = bit;
   untaken = bits;
   split = refl;
   taken = omega arith;
   quietly = refl;
-  told = ap (λ (h : HearOutcome). h.report) Alike ∙ e;
-  left = sym (ap (λ (h : HearOutcome). h.rec) Alike);
+  told = ap (λ (h : HearOutcome). h.report) alike ∙ e;
+  left = sym (ap (λ (h : HearOutcome). h.rec) alike);
 }
 
 listened_refused : (at : ℕ) (rec : Listener) (bits : List ℕ) (n : ℕ) → in_range rec ≡ true → (listened rec bits at).report ≡ refusal n → RefusedFrom at rec bits n (listened rec bits at)
 unfolding listened
 listened_refused at rec [] n inside = λ e. absurd (let z : ⊥ = omega (arith, ap number_told e) in z)
 listened_refused at rec (bit ∷ bits) n inside =
-    let Alike : heard_bit rec bit ≡ heard_in rec bit = heard_inside rec bit inside in
+    let alike : heard_bit rec bit ≡ heard_in rec bit = heard_inside rec bit inside in
     either_way (λ (all : ManyOutcome). all.report ≡ refusal n → RefusedFrom at rec (bit ∷ bits) n all) (silent (heard_in rec bit).report) (listened (heard_in rec bit).rec bits (at + 1)) (taking (heard_in rec bit) (at + 1))
-    (λ quiet. subst (λ (o : HearOutcome). (listened o.rec bits (at + 1)).report ≡ refusal n → RefusedFrom at rec (bit ∷ bits) n (listened o.rec bits (at + 1))) Alike
-    (λ e. one_before at rec bit bits n _ (ap (λ (o : HearOutcome). silent o.report) Alike ∙ quiet) (listened_refused (at + 1) (heard_bit rec bit).rec bits n (heard_range rec bit inside) e)))
-    (λ _ e. none_before at rec bit bits n (heard_in rec bit) Alike e)
+    (λ quiet. subst (λ (o : HearOutcome). (listened o.rec bits (at + 1)).report ≡ refusal n → RefusedFrom at rec (bit ∷ bits) n (listened o.rec bits (at + 1))) alike
+    (λ e. one_before at rec bit bits n _ (ap (λ (o : HearOutcome). silent o.report) alike ∙ quiet) (listened_refused (at + 1) (heard_bit rec bit).rec bits n (heard_range rec bit inside) e)))
+    (λ _ e. none_before at rec bit bits n (heard_in rec bit) alike e)
 
 many_refused : (rec : Listener) (bits : List ℕ) (n : ℕ) (all : ManyOutcome) → listened rec bits 0 ≡ all → in_range rec ≡ true → all.report ≡ refusal n → RefusedAtOneBit rec bits n all
 many_refused rec bits n all same inside e =

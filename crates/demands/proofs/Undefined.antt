@@ -70,7 +70,7 @@ module _ {A : Type 0} (say : List ℕ → A) (sought : ℕ) (front rest : List �
   stretched octet short long is-short is-long alike-there =
       ap say (between octet long is-long) ∙ longer_by octet short long (group_from sought front) (group_from sought rest) (opens_group sought octet) alike-there ∙ sym (ap say (between octet short is-short))
 
--- offers that are read Alike are the same
+-- offers that are read alike are the same
 module _ (a b : List ℕ) where
   abbrev Alike : {A : Type 0} → (List ℕ → A) → ℕ → Type 0
   Alike say t = say (group_of a t) ≡ say (group_of b t)

@@ -304,7 +304,7 @@ module _ (start te choice : ℕ) (c₀ : Cadence) (toneless : c₀.tone ≡ 0) (
 
 -- and the answerer's order the answerer
 module _ (start choice : ℕ) (okay : is_choice choice ≡ true) where
-  -- from joint, by CJ or by sig_c of the chosen item
+  -- from joint, by CJ or by sigC of the chosen item
   joint_ends : (since : ℕ) (c : Cadence) (last : Due) (acts : List Act) → EndsJoint choice last → in_range (at answerer 0 joint choice going since c) ≡ true → InOrder (at answerer 0 joint choice going since c) (last ∷ last_tick choice) acts
       → EndsWith choice (run (at answerer 0 joint choice going since c) acts)
   unfolding when both

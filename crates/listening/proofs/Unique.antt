@@ -30,7 +30,7 @@ said Cj = refl
 said (Refused r) = ap Refused (named_number r)
 
 pub says_heard_injective : (h k : Heard) → says_heard h ≡ says_heard k → h ≡ k
-says_heard_injective h k Alike = sym (said h) ∙ ap saying Alike ∙ said k
+says_heard_injective h k alike = sym (said h) ∙ ap saying alike ∙ said k
 
 -- and so with a span that is asked for
 abbrev span_saying : Spanned → LastSpan
@@ -44,7 +44,7 @@ span_said (span-as.Bits n) = refl
 span_said (span-as.Refused r) = ap span-as.Refused (named_number r)
 
 pub says_span_injective : (s t : LastSpan) → says_span s ≡ says_span t → s ≡ t
-says_span_injective s t Alike = sym (span_said s) ∙ ap span_saying Alike ∙ span_said t
+says_span_injective s t alike = sym (span_said s) ∙ ap span_saying alike ∙ span_said t
 
 pub hears_unique : (laid : HearOutcome) (a b : BitHeard) → Hears laid a → Hears laid b → a ≡ b
 hears_unique laid a b one other =

@@ -83,14 +83,14 @@ fewer true true n few = omega (arith, few)
 fewer true false n few = lit≤ tt
 fewer false b n few = lit≤ tt
 
-module _ (row : List ℕ) (e : Entry) (is_row : Row row e) where
+module _ (row : List ℕ) (e : Entry) (row_is : Row row e) where
   pub row_meaning : meaning (get_or row 19 0) (get_or row 20 0) ≡ meaning_of e
-  row_meaning = ap₂ meaning is_row.kind is_row.number
+  row_meaning = ap₂ meaning row_is.kind row_is.number
 
   pub row_shown : (kind set : ℕ) → take (shown row kind set) row ≡ name_of kind set e
   row_shown kind set =
-      ap₂ (λ (k n : ℕ). take (when (eqb k kind) (when (in_set set n) (1 + get_or row 18 0) 0) 0) row) is_row.kind is_row.number
-      ∙ chosen (eqb e.kind kind) (in_set set e.number) (get_or row 18 0) row (32 ∷ e.name) is_row.front
+      ap₂ (λ (k n : ℕ). take (when (eqb k kind) (when (in_set set n) (1 + get_or row 18 0) 0) 0) row) row_is.kind row_is.number
+      ∙ chosen (eqb e.kind kind) (in_set set e.number) (get_or row 18 0) row (32 ∷ e.name) row_is.front
 
   pub shown_within : (kind set : ℕ) → shown row kind set ≤ length row
-  shown_within kind set = omega (arith, fewer (eqb (get_or row 19 0) kind) (in_set set (get_or row 20 0)) (get_or row 18 0) is_row.whole.1, is_row.whole.0)
+  shown_within kind set = omega (arith, fewer (eqb (get_or row 19 0) kind) (in_set set (get_or row 20 0)) (get_or row 18 0) row_is.whole.1, row_is.whole.0)

@@ -18,7 +18,7 @@ use Rattle.plans.proofs.LineRuns.{damaged_known, line_begins}
 use Rattle.plans.proofs.ListRuns.{Ends, Lines, Ready, ready_on, entry_stops, entry_run}
 
 -- the damaged bits of an end, which stand from a place on
-module _ (plan : Plan) (n : ℕ) (name : List ℕ) (is_Known : Known name end n) (place : ℕ) (there : (time : ℕ) → bit_place n time ≡ place + time) where
+module _ (plan : Plan) (n : ℕ) (name : List ℕ) (names_it : Known name end n) (place : ℕ) (there : (time : ℕ) → bit_place n time ≡ place + time) where
   abbrev front : List ℕ
   front = 10 ∷ (bytes "damaged" ++ (replicate 3 32 ++ name))
 
@@ -31,7 +31,7 @@ module _ (plan : Plan) (n : ℕ) (name : List ℕ) (is_Known : Known name end n)
   front_run r d ends =
       fed ends.1 refl
       (join {a = bytes "damaged"} {b = replicate 3 32 ++ name} (line_begins plan ends.0 d (bytes "damaged") 7 damaged_known refl) refl
-      (spaced 3 refl (name_run (reading plan (no_line 0) after_damaged) (within first_bit) d name end n is_Known refl refl refl refl refl)))
+      (spaced 3 refl (name_run (reading plan (no_line 0) after_damaged) (within first_bit) d name end n names_it refl refl refl refl refl)))
 
   bit_lines : Lines plan front (within first_bit) (within bits)
   unfolding finish_line when either

@@ -93,17 +93,17 @@ module _ (called end first : ℕ) (d : Found) where
 
     wants_run : (word : List ℕ) (n numbers : ℕ) → Known word wanted n → in_set numbers n ≡ false → Run (now numbers) d (44 ∷ 32 ∷ bytes "wants" ++ (32 ∷ word)) (now (added numbers n)) d
     unfolding bytes word_length name_word end_word part_word when either
-    wants_run word n numbers is_Known not_in =
+    wants_run word n numbers names_it not_in =
         let between = saying 0 (with numbers) after_wants in
         comma refl (spaced 1 refl
         (join {a = bytes "wants"} {b = 32 ∷ word}
         (name_run (now numbers) between d (bytes "wants") part 4 wants_known refl refl refl refl refl)
         refl
-        (spaced 1 refl (name_run between (now (added numbers n)) d word wanted n is_Known refl refl refl (said_read after_wants n numbers not_in) refl))))
+        (spaced 1 refl (name_run between (now (added numbers n)) d word wanted n names_it refl refl refl (said_read after_wants n numbers not_in) refl))))
 
     quality_run : (word : List ℕ) (n numbers : ℕ) → Known word quality n → in_set numbers n ≡ false → Run (now numbers) d (32 ∷ word) (now (added numbers n)) d
     unfolding name_word end_word when either
-    quality_run word n numbers is_Known not_in = spaced 1 refl (name_run (now numbers) (now (added numbers n)) d word quality n is_Known refl refl refl (said_read in_end n numbers not_in) refl)
+    quality_run word n numbers names_it not_in = spaced 1 refl (name_run (now numbers) (now (added numbers n)) d word quality n names_it refl refl refl (said_read in_end n numbers not_in) refl)
 
     comma_run : (said numbers : ℕ) → Run (now numbers) d (comma_text said) (now numbers) d
     unfolding bytes

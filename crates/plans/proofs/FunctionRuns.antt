@@ -58,8 +58,8 @@ module _ (called end : ℕ) (d : Found) where
 
     mode_run : (first : ℕ) (word : List ℕ) (n numbers : ℕ) → Known word mode n → in_set numbers n ≡ false → Run (saying first numbers) d (32 ∷ word) (saying first (added numbers n)) d
     unfolding name_word end_word name_mode say when either
-    mode_run first word n numbers is_Known not_in =
-        spaced 1 refl (name_run (saying first numbers) (saying first (added numbers n)) d word mode n is_Known refl refl refl
+    mode_run first word n numbers names_it not_in =
+        spaced 1 refl (name_run (saying first numbers) (saying first (added numbers n)) d word mode n names_it refl refl refl
         (simp (ne_eqb f 0 (λ e. omega (arith, e, some)), set_here sets sixteen end f numbers, not_in, set-set)) refl)
 
     function_run :

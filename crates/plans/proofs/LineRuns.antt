@@ -84,11 +84,11 @@ module _ (plan : Plan) (before : Line) (d : Found) where
   -- the first word of a line
   end_begins : (word : List ℕ) (n : ℕ) → Known word end n → is_said plan n ≡ false → Run (reading plan before beginning) d word (reading plan (no_line n) in_end) d
   unfolding name_word first_word when either
-  end_begins word n is_Known is-new = name_run (reading plan before beginning) (reading plan (no_line n) in_end) d word end n is_Known refl refl refl (simp is-new) refl
+  end_begins word n names_it is-new = name_run (reading plan before beginning) (reading plan (no_line n) in_end) d word end n names_it refl refl refl (simp is-new) refl
 
   pub line_begins : (word : List ℕ) (n : ℕ) → Known word line n → is_said plan n ≡ false → Run (reading plan before beginning) d word (reading plan (no_line 0) (behind_name n)) d
   unfolding name_word first_word when either
-  line_begins word n is_Known is-new = name_run (reading plan before beginning) (reading plan (no_line 0) (behind_name n)) d word line n is_Known refl refl refl (simp is-new) refl
+  line_begins word n names_it is-new = name_run (reading plan before beginning) (reading plan (no_line 0) (behind_name n)) d word line n names_it refl refl refl (simp is-new) refl
 
   -- the caller's line
   pub caller_begins : is_said plan 1 ≡ false → Run (reading plan before beginning) d (bytes "caller   ") (reading plan (no_line 1) in_end) d

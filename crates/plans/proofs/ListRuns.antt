@@ -35,7 +35,7 @@ module _ {plan : Plan} {front : List ℕ} {first further : Reading} (lines : Lin
   pub ready_on : (count : ℕ) → Ready plan further count further
   ready_on count = (lines.ends, λ _. refl)
 
-  -- an entry, which is read Alike whether it is the first of its line or not
+  -- an entry, which is read alike whether it is the first of its line or not
   module _ (count : ℕ) (entry : List ℕ) where
     pub entry_run : (d d' : Found) (r : Reading) → Ready plan further count r → Run first d (32 ∷ entry) further d' → Run further d (32 ∷ entry) further d' → Run r d (entry_text front count entry) further d'
     unfolding bytes when word_length either

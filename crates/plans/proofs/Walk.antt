@@ -14,7 +14,7 @@ set_past [] at b past = refl
 set_past (x ∷ list) zero b past = absurd (not-suc-le-zero past)
 set_past (x ∷ list) (suc at) b past = ap (λ (rest : List ℕ). x ∷ rest) (set_past list at b (le_of_suc-le-suc past))
 
-set_where : (is_bit_lem : Bool) (list : List ℕ) (at : ℕ) → length list ≤ nowhere → set list (when is_bit_lem at nowhere) 1 ≡ when is_bit_lem (set list at 1) list
+set_where : (is_there : Bool) (list : List ℕ) (at : ℕ) → length list ≤ nowhere → set list (when is_there at nowhere) 1 ≡ when is_there (set list at 1) list
 unfolding when
 set_where true list at fits = refl
 set_where false list at fits = set_past list nowhere 1 fits

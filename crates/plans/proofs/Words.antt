@@ -79,5 +79,5 @@ module _ (r r' : Reading) (d : Found) (word : List ℕ) (kind number : ℕ) wher
       Known word kind number → at_number r ≡ false → at_bits r ≡ false → at_octets r ≡ false → name_word r (meaning kind number) ≡ r' → r'.what ≡ 0
       → Run r d word r' d
   unfolding read_word when both
-  name_run is_Known no_number no_bits no_octets is_read is_right =
-      word_run r r' d d word is_Known.some is_Known.whole (simp (no_number, no_octets, is_Known.meant) is_read) is_right (simp no_bits) (simp (no_octets, append-nil)) refl
+  name_run names_it no_number no_bits no_octets is_read is_right =
+      word_run r r' d d word names_it.some names_it.whole (simp (no_number, no_octets, names_it.meant) is_read) is_right (simp no_bits) (simp (no_octets, append-nil)) refl

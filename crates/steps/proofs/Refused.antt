@@ -45,7 +45,7 @@ module _ (s : Session) (event value now : ℕ) where
   Kept o = (n : ℕ) → o.answer ≡ refusal n → (o.session ≡ s) × StepNumber n
 
   kept_by : (k : ℕ) → StepNumber k → Kept (refused_step k s)
-  kept_by k number n e = let Alike : k ≡ n = omega (arith, ap number_answered e) in (refl, subst StepNumber Alike number)
+  kept_by k number n e = let alike : k ≡ n = omega (arith, ap number_answered e) in (refl, subst StepNumber alike number)
 
   pub refused_step_lem : Kept (stepped s event value now)
   unfolding stepped_in timed

@@ -12,4 +12,4 @@ one_more place n = when (eqb place in_sync) 1 (n + 1)
 
 -- what is counted with a byte, which may be no bit
 abbrev pub one_byte : ℕ → ℕ → Bool → ℕ
-one_byte place n no_bit_lem = when no_bit_lem n (one_more place n)
+one_byte place n no_bit = when no_bit n (one_more place n)

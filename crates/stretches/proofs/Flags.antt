@@ -95,7 +95,7 @@ module _ (before : Earlier) (rec : Listener) (r : Remembers before rec) (bit : �
   turned_flags (is_placed e p) = placed_flags p
 
   -- a byte, which may be no bit
-  byte_flags : in_range rec ≡ true → (no_bit_lem : Bool) → ltb 1 bit ≡ no_bit_lem → Flags before (heard_bit rec bit)
+  byte_flags : in_range rec ≡ true → (no_bit : Bool) → ltb 1 bit ≡ no_bit → Flags before (heard_bit rec bit)
   unfolding flagged heard_in when
   byte_flags range true e = subst (Flags before) (sym (heard_inside rec bit range ∙ heard_not_a_bit rec bit (ltb-true 1 bit e))) (record { after = before; same = λ later. refl; remembers = r })
   byte_flags range false e =

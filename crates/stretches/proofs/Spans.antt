@@ -122,7 +122,7 @@ module _ (n : ℕ) (before : Spanned) (rec : Listener) (s : Spans n before rec) 
   turned_carries (tells_cj_lem e) = passes _ tell_cj (λ later. refl) refl (counts_hunting (n + 1) len) (λ high. absurd (omega (arith, high))) refl
   turned_carries (is_placed e p) = placed_carries p
 
-  byte_carries : (no_bit_lem : Bool) → ltb 1 bit ≡ no_bit_lem → Carries before (heard_bit rec bit) (one_byte (heard_bit rec bit).rec.ear.place n no_bit_lem)
+  byte_carries : (no_bit : Bool) → ltb 1 bit ≡ no_bit → Carries before (heard_bit rec bit) (one_byte (heard_bit rec bit).rec.ear.place n no_bit)
   unfolding heard_in acted when last_of
   byte_carries true e =
       rw (heard_inside rec bit s.range ∙ heard_not_a_bit rec bit (ltb-true 1 bit e))

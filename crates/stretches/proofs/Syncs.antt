@@ -95,7 +95,7 @@ module _ (rec : Listener) (bit : ℕ) (early : rec.ear.place ≤ last_of_sync) w
   by_turn (tells_cj_lem e) unsynced = record { msg = refl; place = omega arith }
   by_turn (is_placed e p) unsynced = by_ask (asks p) unsynced
 
-  byte_stays : in_range rec ≡ true → (no_bit_lem : Bool) → ltb 1 bit ≡ no_bit_lem → ((heard_bit rec bit).rec.ear.place ≡ boundary → ⊥) → Stays rec (heard_bit rec bit)
+  byte_stays : in_range rec ≡ true → (no_bit : Bool) → ltb 1 bit ≡ no_bit → ((heard_bit rec bit).rec.ear.place ≡ boundary → ⊥) → Stays rec (heard_bit rec bit)
   unfolding acted
   byte_stays range true e unsynced = rw (heard_inside rec bit range ∙ heard_not_a_bit rec bit (ltb-true 1 bit e)) (record { msg = refl; place = early })
   byte_stays range false e unsynced = let is = heard_turned rec bit range (omega (arith, ltb-false 1 bit e)) in rw is (by_turn (turned_as rec.ear rec.msg.len bit).by (rw is at unsynced))
