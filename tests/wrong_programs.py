@@ -10,7 +10,7 @@ nor because a name is missing. Of several in one place, and of what waits for a 
 until nothing more is refused; those that belong together, of which the later begin with a comment `# ..`, are tried together.
 Prints each that is not refused so, and last how many there were; exits with 1 where there is one, and with 2 where there is nothing to try.
 The checks are made in copies of the crates outside of this folder, one for each of N workers; the logs stay in target/wrong-programs.
-With --edits, FOLDER/NAME/must-fail stands for crates/NAME/must-fail.
+With --edits, FOLDER/NAME/must-fail stands for crates/NAME/must-fail, and the logs stay there.
 """
 import argparse
 import collections
@@ -177,13 +177,13 @@ def tried(tree, crate, goals, edit, logs):
     ]
 
 
-def work(tree, root, tasks, edits_of, said, lock):
+def work(tree, place, tasks, edits_of, said, lock):
     while True:
         try:
             crate = tasks.get_nowait()
         except queue.Empty:
             return
-        logs = os.path.join(root, LOGS, crate)
+        logs = os.path.join(place, crate)
         os.makedirs(logs, exist_ok=True)
         proves, goals = goals_of(tree, crate)
         found = []
@@ -212,7 +212,8 @@ def main():
     if not edits_of:
         print("no edits")
         return 2
-    shutil.rmtree(os.path.join(root, LOGS), ignore_errors=True)
+    place = os.path.join(root, LOGS) if asked.edits == "crates" else os.path.join(os.path.abspath(asked.edits), "logs")
+    shutil.rmtree(place, ignore_errors=True)
     tasks, said, lock, workers = queue.Queue(), [], threading.Lock(), []
     for name in order:
         if name in edits_of:
@@ -226,7 +227,7 @@ def main():
                         shutil.copytree(os.path.join(root, "crates", name, part), os.path.join(tree, "crates", name, part))
             shutil.copy(os.path.join(root, "crates.txt"), tree)
             os.mkdir(os.path.join(tree, ".git"))
-            workers.append(threading.Thread(target=work, args=(tree, root, tasks, edits_of, said, lock)))
+            workers.append(threading.Thread(target=work, args=(tree, place, tasks, edits_of, said, lock)))
         for worker in workers:
             worker.start()
         for worker in workers:
