@@ -5,6 +5,7 @@ use Prim.Native.Nat.{ℕ, ◌<◌, ◌≤◌, ◌+◌, ◌*◌, ◌%◌, ◌/◌
 use mathlib.Core.Path.{◌≡◌, sym, ap, ◌∙◌}
 use mathlib.Core.Bool.{Bool, true, false}
 use mathlib.Core.List.{List, [], ◌∷◌}
+use Rattle.std.specs.Prelude.{Option, Some, None}
 use borrow.Author.Tests.{leb-true, ne_eqb}
 use native.Mathlib.Nat.{div-div-eq-div-mul}
 use native.Mathlib.Omega.{arith}
@@ -15,8 +16,6 @@ use Rattle.laws.specs.Tests.{all_below}
 use Rattle.laws.proofs.Computed.{below, both_left, both_right}
 use Rattle.laws.proofs.Logic.{both_true, either_way}
 use Rattle.items.specs.declared.ItemPlace.{ItemPlace}
-use Rattle.items.specs.declared.ModePlace.{ModePlace}
-use Rattle.items.specs.declared.ModePlace.TheVariants.{At, Nowhere}
 use Rattle.items.specs.Items.{places, place_of, is_mode, mode_place, bit_of, has_item, set_of, items_of, item_bits, modulation, no_items, modulation_octet}
 
 -- the table of the code: 8 for each octet before it, and the bit
@@ -54,24 +53,15 @@ module _ (i : ℕ) (h : i < 13) where
 pub mode_is_item : (item : ℕ) → is_mode item ≡ true → item < 13
 mode_is_item item mode = omega (arith, leb-true item 12 (both_true (leb 1 item) (leb item 12) mode).1)
 
--- what the place of a mode tells
-abbrev place_in : ItemPlace → ModePlace → ItemPlace
-place_in other (At p) = p
-place_in other Nowhere = other
-
-abbrev stands : ModePlace → ℕ
-stands (At p) = 1
-stands Nowhere = 0
-
-pub mode_there : (item : ℕ) (p : ItemPlace) → mode_place item ≡ At p → (is_mode item ≡ true) × (place_of item ≡ p)
+pub mode_there : (item : ℕ) (p : ItemPlace) → mode_place item ≡ Some p → (is_mode item ≡ true) × (place_of item ≡ p)
 mode_there item p =
-    either_way (λ (m : ModePlace). m ≡ At p → (is_mode item ≡ true) × (place_of item ≡ p)) (is_mode item) (At (place_of item)) Nowhere
-    (λ mode e. (mode, ap (place_in p) e)) (λ _ e. absurd (let z : ⊥ = omega (arith, ap stands e) in z))
+    either_way (λ (m : Option ItemPlace). m ≡ Some p → (is_mode item ≡ true) × (place_of item ≡ p)) (is_mode item) (Some (place_of item)) None
+    (λ mode e. (mode, cc)) (λ _ e. absurd (cc))
 
-pub mode_nowhere : (item : ℕ) → mode_place item ≡ Nowhere → is_mode item ≡ false
+pub mode_nowhere : (item : ℕ) → mode_place item ≡ None → is_mode item ≡ false
 mode_nowhere item =
-    either_way (λ (m : ModePlace). m ≡ Nowhere → is_mode item ≡ false) (is_mode item) (At (place_of item)) Nowhere
-    (λ _ e. absurd (let z : ⊥ = omega (arith, ap stands e) in z)) (λ none _. none)
+    either_way (λ (m : Option ItemPlace). m ≡ None → is_mode item ≡ false) (is_mode item) (Some (place_of item)) None
+    (λ _ e. absurd (cc)) (λ none _. none)
 
 -- an octet that is not there has no bits
 zero_bit : (k : ℕ) → k < 8 → bit_of k 0 ≡ 0

@@ -1,9 +1,7 @@
 -- Document 01, 'Octets of the menu': where the items stand in the modulation group.
-use Rattle.std.specs.Prelude.{ℕ, zero, suc, ◌+◌, ◌*◌, ◌%◌, ◌/◌, ◌^◌, Bool, List, [], ◌∷◌, eqb, leb, get_or}
+use Rattle.std.specs.Prelude.{ℕ, zero, suc, ◌+◌, ◌*◌, ◌%◌, ◌/◌, ◌^◌, Bool, List, [], ◌∷◌, eqb, leb, get_or, Option, Some, None}
 use Rattle.laws.specs.Logic.{when, both}
 use Rattle.items.specs.declared.ItemPlace.{ItemPlace}
-use Rattle.items.specs.declared.ModePlace.{ModePlace}
-use Rattle.items.specs.declared.ModePlace.TheVariants.{At, Nowhere}
 
 abbrev at : ℕ → ℕ → ItemPlace
 at octet bit = record { octet = octet; bit = record { 0 = bit } }
@@ -20,8 +18,8 @@ place_of item = get_or places item (at 0 0)
 abbrev pub is_mode : ℕ → Bool
 is_mode item = both (leb 1 item) (leb item 12)
 
-abbrev pub mode_place : ℕ → ModePlace
-mode_place item = when (is_mode item) (At (place_of item)) Nowhere
+abbrev pub mode_place : ℕ → Option ItemPlace
+mode_place item = when (is_mode item) (Some (place_of item)) None
 
 -- a bit of an octet
 abbrev pub bit_of : ℕ → ℕ → ℕ

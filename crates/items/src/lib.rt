@@ -20,24 +20,17 @@ const LAST_MODE: u8 = 12;
 const NO_ITEMS: u8 = 16;
 
 // An item of the modulation group, and a bit of an octet: one cannot be passed where the other belongs.
-#[derive(Clone, Copy)]
+#[derive(Clone, Copy, Debug, PartialEq, Eq)]
 pub struct Item(pub u8);
 
-#[derive(Clone, Copy)]
+#[derive(Clone, Copy, Debug, PartialEq, Eq)]
 pub struct Bit(pub u8);
 
 // Where an item stands in the modulation group: in which of its octets, and in which bit of that.
-#[derive(Clone, Copy)]
+#[derive(Clone, Copy, Debug, PartialEq, Eq)]
 pub struct ItemPlace {
     pub octet: u8,
     pub bit: Bit,
-}
-
-// Where a mode stands; an item that is none stands nowhere.
-#[derive(Clone, Copy)]
-pub enum ModePlace {
-    At(ItemPlace),
-    Nowhere,
 }
 
 // The places of items 0 to 12: 8 for each octet before it, and the bit.
@@ -61,14 +54,14 @@ fn is_mode(item: Item) -> bool
     FIRST_MODE <= item.0 && item.0 <= LAST_MODE
 }
 
-// The place of an item from 1 to 12.
-pub fn mode_place(item: Item) -> ModePlace
+// Where a mode stands; an item that is none stands nowhere.
+pub fn mode_place(item: Item) -> Option<ItemPlace>
     ensures { result ≡ mode_place item.0 }
 {
     if is_mode(item) {
-        return ModePlace::At(place_of(item));
+        return Some(place_of(item));
     }
-    ModePlace::Nowhere
+    None
 }
 
 // Whether a bit of an octet is 1; none above b7 is.
@@ -104,11 +97,9 @@ pub fn items_in(group: &[u8]) -> u16
 {
     let mut set: u16 = 0;
     let mut weight: u16 = 1;
-    let mut i: u8 = 0;
-    while i < ITEMS {
+    for i in 0..ITEMS {
         set = with_item(set, weight, has_item(group, Item(i)));
         weight *= 2;
-        i += 1;
     }
     set
 }
