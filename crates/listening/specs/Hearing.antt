@@ -1,7 +1,8 @@
 -- Document 01, 'Listening': what one bit does to the record and what it reports; and many bits.
-use Rattle.std.specs.Prelude.{ℕ, ◌+◌, ◌*◌, ◌%◌, ◌≡◌, Bool, true, false, List, [], ◌∷◌, ltb, eqb, set, take}
+use Rattle.std.specs.Prelude.{ℕ, ◌+◌, ◌*◌, ◌%◌, ◌≡◌, Bool, true, false, List, [], ◌∷◌, ltb, eqb, set, take, Result, Ok, Err}
 use Rattle.laws.specs.Logic.{when, both}
 use Rattle.laws.specs.Tests.{same_list}
+use Rattle.refusals.specs.declared.Refusal.{Refusal}
 use Rattle.refusals.specs.Refusals.{number}
 use Rattle.octets.specs.Lists.{readable}
 use Rattle.framing.specs.declared.Ear.{Ear}
@@ -11,7 +12,7 @@ use Rattle.listening.specs.declared.Message.{Message}
 use Rattle.listening.specs.declared.Listener.{Listener}
 use Rattle.listening.specs.declared.Messages.{Messages}
 use Rattle.listening.specs.declared.Heard.{Heard}
-use Rattle.listening.specs.declared.Heard.TheVariants.{Nothing, Ci, Menu, Cj, Refused}
+use Rattle.listening.specs.declared.Heard.TheVariants.{Nothing, Ci, Menu, Cj}
 use Rattle.listening.specs.declared.BitHeard.{BitHeard}
 use Rattle.listening.specs.declared.BitsHeard.{BitsHeard}
 use Rattle.listening.specs.Record.{parts_in_range, in_range}
@@ -25,12 +26,12 @@ pub data Told : Type 0 where
   refusal : ℕ → Told
 
 -- what an answer says on paper
-abbrev pub says_heard : Heard → Told
-says_heard Nothing = silence
-says_heard (Ci span) = ci span
-says_heard (Menu span agreed) = menu agreed span
-says_heard Cj = cj
-says_heard (Refused r) = refusal (number r)
+abbrev pub says_heard : Result Heard Refusal → Told
+says_heard (Ok Nothing) = silence
+says_heard (Ok (Ci span)) = ci span
+says_heard (Ok (Menu span agreed)) = menu agreed span
+says_heard (Ok Cj) = cj
+says_heard (Err r) = refusal (number r)
 
 -- the octets of a message
 abbrev pub octets_of : Message → List ℕ

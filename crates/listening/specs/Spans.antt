@@ -1,11 +1,10 @@
 -- Document 02, Req 05: the span of the message reported last, for a host that keeps the record alone.
-use Rattle.std.specs.Prelude.{ℕ, eqb}
+use Rattle.std.specs.Prelude.{ℕ, eqb, Option, Some, None, Result, Ok, Err}
 use Rattle.laws.specs.Logic.{when}
+use Rattle.refusals.specs.declared.Refusal.{Refusal}
 use Rattle.refusals.specs.Refusals.{number}
 use Rattle.listening.specs.declared.Message.{Message}
 use Rattle.listening.specs.declared.Listener.{Listener}
-use Rattle.listening.specs.declared.LastSpan.{LastSpan}
-use Rattle.listening.specs.declared.LastSpan.TheVariants.{Nothing, Bits, Refused}
 use Rattle.listening.specs.Record.{in_range}
 use Rattle.listening.specs.Hearing.{span_of}
 
@@ -16,10 +15,10 @@ pub data Spanned : Type 0 where
   refusal : ℕ → Spanned
 
 -- what an answer says on paper
-abbrev pub says_span : LastSpan → Spanned
-says_span Nothing = none
-says_span (Bits n) = spans n
-says_span (Refused r) = refusal (number r)
+abbrev pub says_span : Result (Option ℕ) Refusal → Spanned
+says_span (Ok None) = none
+says_span (Ok (Some n)) = spans n
+says_span (Err r) = refusal (number r)
 
 -- of a message, where it is one: 0 is the kind of none
 unfoldable pub spanned : Message → Spanned

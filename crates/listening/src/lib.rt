@@ -4,7 +4,7 @@
 // is to be done; `act_on` does that to the messages, and `tell` says what it tells. Whoever hears a bit goes through these.
 #![tactic(auto)]
 
-ghost use Rattle.std.specs.Prelude.{◌≡◌, take};
+ghost use Rattle.std.specs.Prelude.{◌≡◌, take, Ok};
 ghost use Rattle.listening.specs.Record.{message_in_range, parts_in_range, in_range, empty, fresh};
 ghost use Rattle.listening.specs.Hearing.{says_heard, started, stored, changed, agreed, span_of, reported, told_alone, told, messages_after, listener_of, heard_bit, ear_turned, listened, heard_bits, Hears, HearsMany};
 ghost use Rattle.listening.specs.Spans.{says_span, spanned, last_span};
@@ -38,15 +38,6 @@ pub enum Heard {
     Ci(u16),
     Menu(u16, bool),
     Cj,
-    Refused(Refusal),
-}
-
-// The span of the message reported last.
-#[derive(Clone, Copy)]
-pub enum LastSpan {
-    Nothing,
-    Bits(u16),
-    Refused(Refusal),
 }
 
 // The message being heard or heard last, and the message reported last.
@@ -60,7 +51,7 @@ pub struct Messages {
 #[derive(Clone, Copy)]
 pub struct BitHeard {
     pub rec: Listener,
-    pub report: Heard,
+    pub report: Result<Heard, Refusal>,
 }
 
 // Many bits: how many were taken, and what the last of them reported.
@@ -68,7 +59,7 @@ pub struct BitHeard {
 pub struct BitsHeard {
     pub rec: Listener,
     pub taken: usize,
-    pub report: Heard,
+    pub report: Result<Heard, Refusal>,
 }
 
 // The kinds of a message.
@@ -149,37 +140,38 @@ fn span_of(len: u8) -> u16
 }
 
 fn report_of(m: Message, last: Message) -> Heard
-    ensures { says_heard result ≡ reported m last }
+    ensures { says_heard (Ok result) ≡ reported m last }
 {
-    let kind = m.kind;
     let span = span_of(m.len);
-    if kind == CI {
-        return Heard::Ci(span);
+    if m.kind == CI {
+        Heard::Ci(span)
+    } else {
+        Heard::Menu(span, agree(m, last))
     }
-    Heard::Menu(span, agree(m, last))
 }
 
 // What an act tells that reports no message.
-fn tell_alone(act: u32) -> Heard
+fn tell_alone(act: u32) -> Result<Heard, Refusal>
     ensures { says_heard result ≡ told_alone act }
 {
     if act < REPORT {
-        return Heard::Nothing;
+        Ok(Heard::Nothing)
+    } else if act == TELL_CJ {
+        Ok(Heard::Cj)
+    } else {
+        Err(framing::refusal_in(act))
     }
-    if act == TELL_CJ {
-        return Heard::Cj;
-    }
-    Heard::Refused(framing::refusal_in(act))
 }
 
 // What an act tells.
-pub fn tell(act: u32, m: Message, last: Message) -> Heard
+pub fn tell(act: u32, m: Message, last: Message) -> Result<Heard, Refusal>
     ensures { says_heard result ≡ told act m last }
 {
     if act == REPORT {
-        return report_of(m, last);
+        Ok(report_of(m, last))
+    } else {
+        tell_alone(act)
     }
-    tell_alone(act)
 }
 
 fn message_fits(kind: u8, len: u8) -> bool
@@ -262,24 +254,25 @@ pub fn hear(rec: Listener, bit: u8) -> BitHeard
     }
 }
 
-fn span_in(m: Message) -> LastSpan
-    ensures { says_span result ≡ spanned m }
+fn span_in(m: Message) -> Option<u16>
+    ensures { says_span (Ok result) ≡ spanned m }
 {
-    let kind = m.kind;
-    if kind == NO_MESSAGE {
-        return LastSpan::Nothing;
+    if m.kind == NO_MESSAGE {
+        None
+    } else {
+        Some(span_of(m.len))
     }
-    LastSpan::Bits(span_of(m.len))
 }
 
-// The span of the message reported last, for a host to which its report came as a number.
-pub fn last_span(rec: Listener) -> LastSpan
+// The span of the message reported last, where there is one, for a host to which its report came as a number.
+pub fn last_span(rec: Listener) -> Result<Option<u16>, Refusal>
     ensures { says_span result ≡ last_span rec }
 {
     if fits(rec) {
-        return span_in(rec.last);
+        Ok(span_in(rec.last))
+    } else {
+        Err(Refusal::BadRecord)
     }
-    LastSpan::Refused(Refusal::BadRecord)
 }
 
 fn no_message() -> Message
@@ -332,7 +325,7 @@ fn run(rec: Listener, bits: &[u8]) -> BitsHeard
                 return BitsHeard {
                     rec: listener_of(ear, act_on(msg, last, act, ear.past)),
                     taken: i,
-                    report: report_of(msg, last),
+                    report: Ok(report_of(msg, last)),
                 };
             }
             if REPORT < act {
@@ -352,7 +345,7 @@ fn run(rec: Listener, bits: &[u8]) -> BitsHeard
             last: last,
         },
         taken: i,
-        report: Heard::Nothing,
+        report: Ok(Heard::Nothing),
     }
 }
 
@@ -366,6 +359,6 @@ pub fn hear_many(rec: Listener, bits: &[u8]) -> BitsHeard
     BitsHeard {
         rec: rec,
         taken: 0,
-        report: Heard::Refused(Refusal::BadRecord),
+        report: Err(Refusal::BadRecord),
     }
 }

@@ -8,6 +8,6 @@ pub returns-then-fits : goal.returns-then-fits
 unfolding when last_span
 returns-then-fits c = simp (c.span_in.ensures, ← c.fits.ensures, c.if-fits.true)
 
-pub returns : goal.returns
+pub returns-else-fits : goal.returns-else-fits
 unfolding when last_span
-returns c = simp (← c.fits.ensures, c.if-fits.false)
+returns-else-fits c = simp (← c.fits.ensures, c.if-fits.false)

@@ -5,10 +5,10 @@ use borrow.Author.Tests.{eq-eqb, ne_eqb}
 use Rattle.laws.specs.Logic.{when}
 use Rattle.listening.proofs.report_of.Goals as goal
 
-pub returns-then-kind-eq-CI : goal.returns-then-kind-eq-CI
+pub returns-then-m-eq-CI : goal.returns-then-m-eq-CI
 unfolding when reported
-returns-then-kind-eq-CI c = simp (c.span_of-span.ensures, eq-eqb _ _ c.if-kind-eq-CI.true)
+returns-then-m-eq-CI c = simp (c.span_of-span.ensures, eq-eqb _ _ c.if-m-eq-CI.true)
 
-pub returns : goal.returns
+pub returns-else-m-eq-CI : goal.returns-else-m-eq-CI
 unfolding when reported
-returns c = simp (c.agree.ensures, c.span_of-span.ensures, ne_eqb _ _ c.if-kind-eq-CI.false)
+returns-else-m-eq-CI c = simp (c.agree.ensures, c.span_of-span.ensures, ne_eqb _ _ c.if-m-eq-CI.false)

@@ -5,10 +5,10 @@ use borrow.Author.Tests.{eq-eqb, ne_eqb}
 use Rattle.laws.specs.Logic.{when}
 use Rattle.listening.proofs.span_in.Goals as goal
 
-pub returns-then-kind-eq-NO_MESSAGE : goal.returns-then-kind-eq-NO_MESSAGE
+pub returns-then-m-eq-NO_MESSAGE : goal.returns-then-m-eq-NO_MESSAGE
 unfolding when spanned
-returns-then-kind-eq-NO_MESSAGE c = simp (eq-eqb _ _ c.if-kind-eq-NO_MESSAGE.true)
+returns-then-m-eq-NO_MESSAGE c = simp (eq-eqb _ _ c.if-m-eq-NO_MESSAGE.true)
 
-pub returns : goal.returns
+pub returns-else-m-eq-NO_MESSAGE : goal.returns-else-m-eq-NO_MESSAGE
 unfolding when spanned
-returns c = simp (c.span_of.ensures, ne_eqb _ _ c.if-kind-eq-NO_MESSAGE.false)
+returns-else-m-eq-NO_MESSAGE c = simp (c.span_of.ensures, ne_eqb _ _ c.if-m-eq-NO_MESSAGE.false)

@@ -13,6 +13,6 @@ pub returns-then-act-eq-TELL_CJ : goal.returns-then-act-eq-TELL_CJ
 unfolding when told_alone
 returns-then-act-eq-TELL_CJ c = simp (eq-eqb _ _ c.if-act-eq-TELL_CJ.true, le-ltb _ _ c.if-act-lt-REPORT.false)
 
-pub returns : goal.returns
+pub returns-else-act-eq-TELL_CJ : goal.returns-else-act-eq-TELL_CJ
 unfolding when told_alone
-returns c = simp (c.refusal_in.ensures, ne_eqb _ _ c.if-act-eq-TELL_CJ.false, le-ltb _ _ c.if-act-lt-REPORT.false)
+returns-else-act-eq-TELL_CJ c = simp (c.refusal_in.ensures, ne_eqb _ _ c.if-act-eq-TELL_CJ.false, le-ltb _ _ c.if-act-lt-REPORT.false)
