@@ -1,14 +1,13 @@
 -- The modes of a function by its number, and one function at a time of the test over all.
 -- Assumes nothing.
-use Prim.Native.Nat.{ℕ, zero, suc, ◌<◌, ◌≤◌, ◌+◌, ◌-◌}
-use native.Mathlib.Numerals.{add-one}
+use Prim.Native.Nat.{ℕ, zero, suc, ◌<◌, ◌≤◌, ◌-◌}
 use native.Mathlib.Omega.{arith}
-use mathlib.Core.Path.{◌≡◌, sym}
-use mathlib.Core.Bool.{true, false}
-use mathlib.Core.List.{List}
+use mathlib.Core.Path.{◌≡◌, refl, sym}
+use mathlib.Core.Bool.{Bool, true, false, ◌||◌}
+use mathlib.Core.List.{List, [], ◌∷◌}
 use borrow.Author.Tests.{ne_eqb}
-use lib.ListN.{length, drop, get_or, get_or-eq_default}
-use lib.Seq.{drop-cons}
+use lib.ListN.{length, get_or, get_or-eq_default}
+use Rattle.std.specs.List.{list_any}
 use Rattle.laws.specs.Logic.{when, either}
 use Rattle.records.specs.declared.Modes.{Modes}
 use Rattle.records.specs.declared.Record.{Record}
@@ -25,14 +24,15 @@ pub modes_past : (functions : List Modes) (n : ℕ) → length functions < n →
 unfolding when
 modes_past functions n h = simp (modes_at_lem functions n (omega (arith, h)), get_or-eq_default functions no_modes {n = n - 1} (omega (arith, h)))
 
-module _ (functions : List Modes) (i : ℕ) (d : Modes) (h : i < length functions) where
-  pub bad_here : bad_modes (get_or functions i d) ≡ true → any_bad (drop i functions) ≡ true
-  unfolding either any_bad
-  bad_here t = simp (drop-cons functions i d h, t)
-
-  pub bad_on : bad_modes (get_or functions i d) ≡ false → any_bad (drop i functions) ≡ any_bad (drop (i + 1) functions)
-  unfolding either any_bad
-  bad_on t = simp (drop-cons functions i d h, t, add-one)
+-- the test over all functions is std's word for one
+pub any_listed : (functions : List Modes) → any_bad functions ≡ list_any bad_modes functions
+unfolding any_bad either
+any_listed [] = refl
+any_listed (modes ∷ rest) = go (bad_modes modes) (any_listed rest)
+  where
+    go : (here : Bool) → any_bad rest ≡ list_any bad_modes rest → either here (any_bad rest) ≡ (here || list_any bad_modes rest)
+    go true behind = refl
+    go false behind = behind
 
 -- the test of the home function decides, then that of the flags, or it is left to all functions
 module _ (rec : Record) (home : Modes) (same : home ≡ in_use rec rec.home) where

@@ -4,9 +4,6 @@
 ghost use Rattle.std.specs.Prelude.{◌≡◌};
 ghost use Rattle.records.specs.Record.{no_modes, outside, lacks_item_1, bad_modes, bad_flags, in_use, bad_record};
 
-// The last function; they are counted from 1.
-const LAST_FUNCTION: u8 = 6;
-
 // The weight of item 13 in a set: there is none.
 const ITEM_13: u16 = 8192;
 
@@ -16,7 +13,7 @@ const ALL_OPTIONS: u8 = 7;
 // What an end has for one call function: 1 where it is available, otherwise 0; items as a set, bit i for item i; PCM options with b5
 // lowest.
 #[repr(C)]
-#[derive(Clone, Copy)]
+#[derive(Clone, Copy, Debug, Default, PartialEq, Eq)]
 pub struct Modes {
     pub available: u8,
     pub pcm: u8,
@@ -25,7 +22,7 @@ pub struct Modes {
 
 // What an end can do: functions 1 to 6 in turn, the home function, what is wanted, and what the line is; 1 for yes, 0 for no.
 #[repr(C)]
-#[derive(Clone, Copy)]
+#[derive(Clone, Copy, Debug, PartialEq, Eq)]
 pub struct Record {
     pub functions: [Modes; 6],
     pub home: u8,
@@ -35,30 +32,17 @@ pub struct Record {
     pub digital: u8,
 }
 
-fn no_modes() -> Modes
-    ensures { result ≡ no_modes }
-{
-    Modes {
-        available: 0,
-        pcm: 0,
-        items: 0,
-    }
-}
-
 // What the record has for a function: no modes where it is not available, and for a number that is no function.
 pub fn in_use(own: Record, function: u8) -> Modes
     ensures { result ≡ in_use own function }
 {
-    if function == 0 || LAST_FUNCTION < function {
-        return no_modes();
+    let Some(at) = function.checked_sub(1) else {
+        return Modes::default();
+    };
+    match own.functions.get(at as usize) {
+        Some(modes) if modes.available == 1 => *modes,
+        _ => Modes::default(),
     }
-    let at = (function - 1) as usize;
-    let functions = own.functions;
-    let modes = functions[at];
-    if modes.available == 1 {
-        return modes;
-    }
-    no_modes()
 }
 
 // An item outside 1 to 12.
@@ -94,16 +78,5 @@ pub fn bad(own: Record) -> bool
     ensures { result ≡ bad_record own }
 {
     let home = in_use(own, own.home);
-    if home.available != 1 || bad_flags(own) {
-        return true;
-    }
-    let functions = own.functions;
-    let mut i: usize = 0;
-    while i < functions.len() {
-        if bad_modes(functions[i]) {
-            return true;
-        }
-        i += 1;
-    }
-    false
+    home.available != 1 || (bad_flags(own) || own.functions.iter().any(|modes| bad_modes(*modes)))
 }
