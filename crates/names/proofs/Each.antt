@@ -7,6 +7,7 @@ use mathlib.Core.Bool.{true, false}
 use mathlib.Core.List.{List, [], ◌∷◌}
 use lib.ListN.{drop, drop_of_length-le}
 use lib.Seq.{drop-cons}
+use Rattle.std.specs.Prelude.{Some, None}
 use Rattle.laws.specs.Logic.{when}
 use Rattle.printing.specs.Page.{Page, typed}
 use Rattle.printing.proofs.Pages.{typed_joined}
@@ -24,7 +25,7 @@ module _ (at : ℕ) (h : at < 902) where
       let next : suc (at / 22) ≡ (at + 22) / 22 = omega arith in
       drop-cons names (at / 22) no_name (omega (arith, h)) ∙ ap (λ (i : ℕ). name_at (at / 22) ∷ drop i names) next
 
-  pub named_here : (word : List ℕ) → same_letters word (name_at (at / 22)).name ≡ true → named_by (from at) word ≡ meaning_of (name_at (at / 22))
+  pub named_here : (word : List ℕ) → same_letters word (name_at (at / 22)).name ≡ true → named_by (from at) word ≡ Some (meaning_of (name_at (at / 22)))
   unfolding named_by when
   named_here word is_name = simp (first, is_name)
 
@@ -41,7 +42,7 @@ module _ (at : ℕ) (h : 902 ≤ at) where
   unfolding names
   none_left = let past : 41 ≤ at / 22 = omega (arith, h) in drop_of_length-le names past
 
-  pub named_end : (word : List ℕ) → named_by (from at) word ≡ meaning_of no_name
+  pub named_end : (word : List ℕ) → named_by (from at) word ≡ None
   unfolding named_by
   named_end word = simp none_left
 

@@ -1,5 +1,5 @@
 -- The words of a call text and of what is told of a call: names as document 01 and the header have them, and what each names.
-use Rattle.std.specs.Prelude.{ℕ, ◌+◌, Bool, List, [], ◌∷◌, ◌++◌, map, leb, ltb, eqb}
+use Rattle.std.specs.Prelude.{ℕ, ◌+◌, Bool, List, [], ◌∷◌, ◌++◌, map, leb, ltb, eqb, Option, None, Some}
 use Prim.Native.String.{String}
 use Rattle.laws.specs.Logic.{when}
 use Rattle.laws.specs.Tests.{same_list}
@@ -114,11 +114,11 @@ abbrev pub meaning_of : Entry → Meaning
 meaning_of e = record { kind = e.kind; number = e.number }
 
 -- what a word names by a list of names: what the first name with its letters does
-unfoldable pub named_by : List Entry → List ℕ → Meaning
-named_by [] word = meaning_of no_name
-named_by (e ∷ rest) word = when (same_letters word e.name) (meaning_of e) (named_by rest word)
+unfoldable pub named_by : List Entry → List ℕ → Option Meaning
+named_by [] word = None
+named_by (e ∷ rest) word = when (same_letters word e.name) (Some (meaning_of e)) (named_by rest word)
 
-abbrev pub named : List ℕ → Meaning
+abbrev pub named : List ℕ → Option Meaning
 named word = named_by names word
 
 -- a name of this kind whose number is in the set, behind a blank; nothing for any other

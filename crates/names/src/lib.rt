@@ -2,11 +2,12 @@
 #![tactic(auto)]
 
 ghost use Rattle.std.specs.Prelude.{◌≡◌, ◌≤◌, length, get_or};
-ghost use Rattle.printing.specs.Page.{page, typed};
+ghost use Rattle.printing.specs.Page.{typed};
 ghost use Rattle.names.specs.Names.{lower, same_letters, names, named, names_of};
 ghost use Rattle.names.specs.Inner.{table, name_in, shown};
 
 use items::Item;
+use printing::Page;
 
 // What a word may name: nothing that is known, an end of the call, a line of a call text, a call function, an item or a PCM option by
 // document 01's name for it, an item by the other name that V.8 has for it, a part of an end's line, what an end wants, what its line
@@ -130,8 +131,8 @@ fn is_name(row: &[u8], word: &[u8]) -> bool
     true
 }
 
-// What a word names.
-pub fn named(word: &[u8]) -> Meaning
+// What a word names, where it is a name.
+pub fn named(word: &[u8]) -> Option<Meaning>
     ensures { result ≡ named word.now }
 {
     let names = table();
@@ -140,17 +141,14 @@ pub fn named(word: &[u8]) -> Meaning
         let end = at + ROW;
         let row = &names[at..end];
         if is_name(row, word) {
-            return Meaning {
+            return Some(Meaning {
                 kind: row[KIND],
                 number: row[NUMBER],
-            };
+            });
         }
         at = end;
     }
-    Meaning {
-        kind: NOTHING,
-        number: 0,
-    }
+    None
 }
 
 // How many bytes of a row are written: those of the blank and the name, where it is of this kind and in the set.
@@ -169,18 +167,16 @@ fn shown(row: &[u8], kind: u8, set: u16) -> usize
 }
 
 // The names of a kind whose numbers are in a set, a blank before each.
-pub fn put_names(out: &mut [u8], at: usize, kind: u8, set: u16) -> usize
-    ensures { page out.new result ≡ typed (page out.old at) (names_of kind set names) }
+pub fn put_names(page: &mut Page<'_>, kind: u8, set: u16)
+    ensures { page.new ≡ typed page.old (names_of kind set names) }
 {
     let names = table();
-    let mut n = at;
     let mut from: usize = 0;
     while from < TABLE {
         let end = from + ROW;
         let row = &names[from..end];
         let len = shown(row, kind, set);
-        n = printing::put_text(out, n, &row[..len]);
+        page.put_text(&row[..len]);
         from = end;
     }
-    n
 }

@@ -12,7 +12,7 @@ use lib.ListN.{length, drop, get_or, set, length-set, drop_of_length-le}
 use lib.Seq.{drop-cons}
 use Rattle.io.specs.Digits.{last_digits, IsDigitCount}
 use Rattle.laws.proofs.Logic.{either_way}
-use Rattle.printing.specs.Page.{Page, page, struck, typed, TypedDecimal}
+use Rattle.printing.specs.Page.{Page, struck, typed, TypedDecimal}
 
 -- a text is typed one byte at a time
 module _ (p : Page) (text : List ℕ) (i : ℕ) where
@@ -35,12 +35,12 @@ pub typed_then : (p : Page) (a b : List ℕ) {q s : Page} → q ≡ typed p a �
 typed_then p a b first second = second ∙ ap (λ (x : Page). typed x b) first ∙ sym (typed_joined p a b)
 
 -- the place is within the buffer, or right behind it
-abbrev Within : Page → Type 0
+abbrev pub Within : Page → Type 0
 Within p = p.at ≤ length p.buffer
 
 struck_within : (p : Page) (b : ℕ) → Within p → Within (struck p b)
 struck_within p b within =
-    either_way Within (ltb p.at (length p.buffer)) (page (set p.buffer p.at b) (p.at + 1)) p
+    either_way Within (ltb p.at (length p.buffer)) (record p { buffer = set p.buffer p.at b; at = p.at + 1 }) p
     (λ has_room. omega (arith, ltb-true p.at (length p.buffer) has_room, length-set p.buffer p.at b))
     (λ full. within)
 
@@ -49,12 +49,12 @@ unfolding typed
 typed_within p [] within = within
 typed_within p (b ∷ text) within = typed_within (struck p b) text (struck_within p b within)
 
--- who is given a place within the buffer answers one
-module _ (before after : List ℕ) (at r : ℕ) where
-  pub text_within : (text : List ℕ) → page after r ≡ typed (page before at) text → at ≤ length before → r ≤ length after
-  text_within text is-typed within = subst Within (sym is-typed) (typed_within (page before at) text within)
+-- who is given a place within the buffer leaves one
+module _ (before after : Page) where
+  pub text_within : (text : List ℕ) → after ≡ typed before text → Within before → Within after
+  text_within text is-typed within = subst Within (sym is-typed) (typed_within before text within)
 
-  pub decimal_within : (n : ℕ) → TypedDecimal (page before at) n (page after r) → at ≤ length before → r ≤ length after
+  pub decimal_within : (n : ℕ) → TypedDecimal before n after → Within before → Within after
   decimal_within n number within = text_within (last_digits 10 number.count n) number.text within
 
 -- no two counts are the fewest

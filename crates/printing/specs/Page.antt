@@ -1,22 +1,20 @@
 -- What is typed on a page: byte after byte where there is room, and what has none is left out.
 use Rattle.std.specs.Prelude.{ℕ, ◌+◌, ◌/◌, ◌%◌, ◌≡◌, List, [], ◌∷◌, ltb, length, set}
+use Rattle.std.specs.Borrow.{GName}
 use Rattle.io.specs.Digits.{last_digits, IsDigitCount}
 use Rattle.laws.specs.Logic.{when}
 
--- a lent buffer, and the place of the next byte in it
+-- a lent buffer, which loan it is, and the place of the next byte in it
 pub record Page : Type 0 where
+  pub lent : GName
   pub buffer : List ℕ
   pub at : ℕ
-
--- the page of a buffer and a place
-abbrev pub page : List ℕ → ℕ → Page
-page buffer at = record { buffer = buffer; at = at }
 
 -- a byte at the place, where that is within the buffer; every other byte keeps its value
 abbrev pub struck : Page → ℕ → Page
 struck p b =
     when (ltb p.at (length p.buffer))
-    (page (set p.buffer p.at b) (p.at + 1))
+    (record p { buffer = set p.buffer p.at b; at = p.at + 1 })
     p
 
 -- the bytes of a text, one after the other

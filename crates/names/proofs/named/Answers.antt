@@ -2,6 +2,7 @@
 -- Assumes nothing.
 use native.Mathlib.Omega.{arith}
 use mathlib.Core.Path.{refl, sym, ap, ◌∙◌}
+use Rattle.std.specs.Prelude.{Some}
 use Rattle.names.specs.Names.{same_letters}
 use Rattle.names.proofs.Rows.{row_at, table_length, row_meaning}
 use Rattle.names.proofs.Each.{named_here, named_on, named_end}
@@ -33,7 +34,7 @@ returns-then-is_name c =
     let row = row_at _ c.table-names.ensures c.loop-at.at c.loop-at-test.true c.loop-at.invariant.0 in
     let word = c.args.word.now in
     let same = ap (same_letters word) (sym row.letters) in
-    row_meaning _ _ row ∙ sym (c.loop-at.invariant.1 ∙ named_here c.loop-at.at c.loop-at-test.true word (same ∙ sym c.is_name.ensures ∙ c.if-is_name.true))
+    ap Some (row_meaning _ _ row) ∙ sym (c.loop-at.invariant.1 ∙ named_here c.loop-at.at c.loop-at-test.true word (same ∙ sym c.is_name.ensures ∙ c.if-is_name.true))
 
 pub loop-at-preserved : goal.loop-at-preserved
 loop-at-preserved c =

@@ -2,14 +2,13 @@
 -- Assumes nothing.
 use Prim.Native.Nat.{◌-◌, ◌%◌}
 use mathlib.Core.Path.{◌≡◌}
-use lib.ListN.{length}
-use Rattle.printing.specs.Page.{page, typed}
+use Rattle.printing.specs.Page.{typed}
 use Rattle.names.specs.Names.{names, names_of}
 use Rattle.names.proofs.Each.{from}
 use Rattle.names.proofs.put_names.Given as goal
 
 abbrev pub invariant-loop-from : goal.invariant-loop-from
-invariant-loop-from l = (l.from % 22 ≡ 0) × (typed (page l.out l.n) (names_of l.kind l.set (from l.from)) ≡ typed (page l.initial.out l.at) (names_of l.kind l.set names)) × (length l.out ≡ length l.initial.out)
+invariant-loop-from l = (l.from % 22 ≡ 0) × (typed l.page (names_of l.kind l.set (from l.from)) ≡ typed l.initial.page (names_of l.kind l.set names))
 
 abbrev pub decreases-loop-from : goal.decreases-loop-from
 decreases-loop-from l = 902 - l.from

@@ -1,4 +1,4 @@
--- `printing::hex_digit` meets its contract: whether n is below 10 decides, and what is asked of n keeps the sum in a byte.
+-- `printing::hex_digit` meets its contract: whether n is below 10 decides.
 -- Assumes nothing.
 use Rattle.laws.specs.Logic.{when}
 use Rattle.laws.proofs.Cases.{cases}
@@ -8,6 +8,6 @@ pub returns-then-n-lt10 : goal.returns-then-n-lt10
 unfolding when
 returns-then-n-lt10 c = search cases
 
-pub returns : goal.returns
+pub returns-else-n-lt10 : goal.returns-else-n-lt10
 unfolding when
-returns c = search cases
+returns-else-n-lt10 c = search cases
