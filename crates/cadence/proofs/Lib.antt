@@ -5,3 +5,4 @@ pub mod Moves
 pub mod Left
 pub mod Placed
 pub mod Unique
+pub mod Within

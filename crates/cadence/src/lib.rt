@@ -14,7 +14,7 @@ use refusals::{Refusal, Wrote};
 // bit stands, how many bits were given out, and the tone that ended it. As numbers, since a host in C holds it in its session;
 // docs/RANGES.md says what they may be.
 #[repr(C)]
-#[derive(Clone, Copy)]
+#[derive(Clone, Copy, PartialEq, Eq)]
 pub struct Cadence {
     pub off: u16,
     pub place: u16,
@@ -67,27 +67,27 @@ pub struct Given {
 pub fn is_function(function: u8) -> bool
     ensures { result ≡ is_function function }
 {
-    FIRST_FUNCTION <= function && function <= LAST_FUNCTION
+    (FIRST_FUNCTION..=LAST_FUNCTION).contains(&function)
 }
 
 // Sequences on, and bit times off.
 pub fn is_cadence(on: u8, off: u16) -> bool
     ensures { result ≡ is_cadence on off }
 {
-    LEAST_ON <= on && (on <= MOST_ON && (LEAST_OFF <= off && off <= MOST_OFF))
+    (LEAST_ON..=MOST_ON).contains(&on) && (LEAST_OFF..=MOST_OFF).contains(&off)
 }
 
 fn on_bits(on: u8) -> u16
     ensures { result ≡ on_bits on }
 {
-    on as u16 * SEQUENCE
+    u16::from(on) * SEQUENCE
 }
 
 // The place within its period: of the first three sequences it is as many bits as were sent.
 fn place_fits(place: u16, sent: u8, end: u16) -> bool
     ensures { result ≡ place_fits place sent end }
 {
-    place < end && (sent == THREE_SEQUENCES || (sent < THREE_SEQUENCES && place == sent as u16))
+    place < end && (sent == THREE_SEQUENCES || (sent < THREE_SEQUENCES && place == u16::from(sent)))
 }
 
 pub fn fits(c: Cadence) -> bool
@@ -115,8 +115,7 @@ pub fn no_cadence() -> Cadence
 pub fn is_none(c: Cadence) -> bool
     ensures { result ≡ is_none c }
 {
-    c.off == 0
-        && (c.place == 0 && (c.on == 0 && (c.function == 0 && (c.sent == 0 && c.tone == NO_TONE))))
+    c == no_cadence()
 }
 
 // A caller's, at the start of a call.
@@ -124,12 +123,10 @@ pub fn begin(function: u8, on: u8, off: u16) -> Cadence
     ensures { result ≡ begun function on off }
 {
     Cadence {
-        off: off,
-        place: 0,
-        on: on,
-        function: function,
-        sent: 0,
-        tone: NO_TONE,
+        off,
+        on,
+        function,
+        ..no_cadence()
     }
 }
 
@@ -138,7 +135,7 @@ pub fn bits_left(c: Cadence) -> u16
     ensures { result ≡ left c }
 {
     if c.sent < THREE_SEQUENCES {
-        return (THREE_SEQUENCES - c.sent) as u16;
+        return u16::from(THREE_SEQUENCES - c.sent);
     }
     if c.place < on_bits(c.on) {
         return (SEQUENCE - c.place % SEQUENCE) % SEQUENCE;
@@ -150,14 +147,7 @@ pub fn bits_left(c: Cadence) -> u16
 pub fn remember(c: Cadence, tone: u8) -> Cadence
     ensures { result ≡ remembering c tone }
 {
-    Cadence {
-        off: c.off,
-        place: c.place,
-        on: c.on,
-        function: c.function,
-        sent: c.sent,
-        tone: tone,
-    }
+    Cadence { tone, ..c }
 }
 
 // How many bits come of those that are asked for.
@@ -167,18 +157,14 @@ fn bits_due(c: Cadence, asked: usize) -> usize
     if c.tone == NO_TONE {
         return asked;
     }
-    let rest = bits_left(c) as usize;
-    if rest < asked {
-        return rest;
-    }
-    asked
+    asked.min(usize::from(bits_left(c)))
 }
 
 fn ci_number(function: u8) -> u32
     requires { function < 8 }
     ensures { result ≡ ci_number function }
 {
-    CI_OF_0 + FUNCTION_WEIGHT * function as u32
+    CI_OF_0 + FUNCTION_WEIGHT * u32::from(function)
 }
 
 fn bit_at(ci: u32, on: u16, place: u16) -> u8
@@ -206,11 +192,9 @@ fn fill(out: &mut [u8], n: usize, ci: u32, on: u16, end: u16, from: u16) -> u16
     ensures { (result ≡ (from + n) % end) × (out.new ≡ front (bits_here ci on end from n) out.old) }
 {
     let mut place = from;
-    let mut i: usize = 0;
-    while i < n {
-        out[i] = bit_at(ci, on, place);
+    for bit in &mut out[..n] {
+        *bit = bit_at(ci, on, place);
         place = next_place(place, end);
-        i += 1;
     }
     place
 }
@@ -220,7 +204,7 @@ fn sent_after(sent: u8, n: usize) -> u8
     requires { sent ≤ 90 }
     ensures { result ≡ when (ltb (sent + n) 90) (sent + n) 90 }
 {
-    if n < (THREE_SEQUENCES - sent) as usize {
+    if n < usize::from(THREE_SEQUENCES - sent) {
         return sent + n as u8;
     }
     THREE_SEQUENCES
@@ -236,12 +220,9 @@ pub fn give(c: Cadence, out: &mut [u8]) -> Given
         let place = fill(out, n, ci_number(c.function), on, on + c.off, c.place);
         return Given {
             cadence: Cadence {
-                off: c.off,
-                place: place,
-                on: c.on,
-                function: c.function,
+                place,
                 sent: sent_after(c.sent, n),
-                tone: c.tone,
+                ..c
             },
             answer: Wrote::Count(n),
         };

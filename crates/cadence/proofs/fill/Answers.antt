@@ -1,63 +1,55 @@
--- `cadence::fill` meets its contract. Invariant: the first i bits stand at the front of what was lent, and the place is that of bit i in its period.
+-- `cadence::fill` meets its contract. Invariant: so many bits stand at the front of what is lent, and the place is that of the next in its period.
 -- Assumes nothing.
 use native.Mathlib.Nat.{mod-lt, mod-add-mod, mod-eq_of_lt}
 use native.Mathlib.Omega.{arith}
-use Prim.Native.Nat.{ℕ, ◌+◌, ◌%◌, ◌<◌}
-use mathlib.Core.List.{List}
+use Prim.Native.Nat.{ℕ, ◌+◌, ◌%◌, ◌<◌, ◌≤◌}
+use mathlib.Core.List.{List, [], ◌++◌}
 use mathlib.Core.Path.{◌≡◌, sym, ap, refl, ◌∙◌}
-use lib.ListN.{length}
-use Rattle.laws.proofs.Pasted.{pasted_more, pasted_length, pasted_all}
+use lib.ListN.{length, take, drop, drop_of_length-le}
+use Rattle.std.proofs.lemmas.List.{length-take-le, append-nil}
+use Rattle.laws.specs.Front.{front}
+use Rattle.laws.proofs.Pasted.{pasted_more, pasted_all}
 use Rattle.cadence.specs.Inner.{bit_here, bits_here}
 use Rattle.cadence.proofs.Bits.{here_length, here_at}
-use Rattle.cadence.proofs.fill.Goals.{At-loop-i}
+use Rattle.cadence.proofs.fill.Goals.{At-loop-bit}
 use Rattle.cadence.proofs.fill.Goals as goal
 
--- the bits that are written
-abbrev bits : At-loop-i → List ℕ
-bits at-loop = let a = at-loop.args in bits_here a.ci a.on a.end a.from a.n
+-- the part that is lent on, filled whole, and what stands behind it
+filled : (bits lent part : List ℕ) (n : ℕ) → length bits ≡ n → n ≤ length lent → part ≡ front bits (take n lent) → part ++ drop n lent ≡ front bits lent
+filled bits lent part n long within is =
+    let none : drop (length bits) (take n lent) ≡ [] = drop_of_length-le (take n lent) (omega (arith, length-take-le n lent within, long)) in
+    ap (λ (l : List ℕ). l ++ drop n lent) (is ∙ ap (bits ++◌) none ∙ append-nil bits) ∙ ap (λ (k : ℕ). bits ++ drop k lent) (sym long)
 
-whole : (at-loop : At-loop-i) → length (bits at-loop) ≡ at-loop.args.n
-whole at-loop = let a = at-loop.args in here_length a.ci a.on a.end a.from a.n
-
--- the buffer is as long as it was lent
-long : (at-loop : At-loop-i) → length at-loop.loop-i.out ≡ length at-loop.args.out.now
-long at-loop =
-    pasted_length at-loop.args.out.now (bits at-loop) at-loop.loop-i.i _ at-loop.loop-i.invariant.2 (omega (arith, at-loop.loop-i.invariant.0, at-loop.requires.n_in_bounds)) (omega (arith, at-loop.loop-i.invariant.0, whole at-loop))
-
-pub loop-i-init : goal.loop-i-init
-loop-i-init c =
+pub loop-bit-init : goal.loop-bit-init
+loop-bit-init c =
     let a = c.args in
     let here : a.from + 0 ≡ a.from = omega arith in
-    (omega arith, sym (ap (λ (p : ℕ). p % a.end) here ∙ mod-eq_of_lt c.requires.from_lt_end), refl)
-
-pub bounds-out-i : goal.bounds-out-i
-bounds-out-i c =
-    omega (arith, c.loop-i-test.true, c.requires.n_in_bounds, long (goal.at.bounds-out-i c).At-loop-i)
+    (sym (ap (λ (p : ℕ). p % a.end) here ∙ mod-eq_of_lt c.requires.from_lt_end), refl)
 
 pub next_place-place-requires : goal.next_place-place-requires
 next_place-place-requires c =
     let a = c.args in
-    omega (arith, c.loop-i.invariant.1, mod-lt (a.from + c.loop-i.i) {m = a.end} (omega (arith, c.requires.from_lt_end)))
+    omega (arith, c.loop-bit.invariant.0, mod-lt (a.from + c.loop-bit.bit-index) {m = a.end} (omega (arith, c.requires.from_lt_end)))
 
-pub loop-i-preserved : goal.loop-i-preserved
-loop-i-preserved c =
+pub loop-bit-preserved : goal.loop-bit-preserved
+loop-bit-preserved c =
     let a = c.args in
-    let i = c.loop-i.i in
-    let more : i < a.n = c.loop-i-test.true in
+    let i = c.loop-bit.bit-index in
+    let lent = length-take-le a.n a.out.now c.requires.n_in_bounds in
+    let more : i < a.n = omega (arith, c.loop-bit-test.true, lent) in
     let on-by-one : a.from + i + 1 ≡ a.from + (i + 1) = omega arith in
-    let bit = c.bit_at.ensures ∙ ap (bit_here a.ci a.on) c.loop-i.invariant.1 ∙ sym (here_at a.ci a.on a.end a.n a.from i more) in (
-      omega (arith, more),
-      c.next_place-place.ensures ∙ ap (λ (p : ℕ). (p + 1) % a.end) c.loop-i.invariant.1 ∙ mod-add-mod (a.from + i) a.end 1 ∙ ap (λ (p : ℕ). p % a.end) on-by-one,
-      pasted_more a.out.now (bits (goal.at.loop-i-preserved c).At-loop-i) i _ c.loop-i.invariant.2 _ bit (omega (arith, more, c.requires.n_in_bounds)) (omega (arith, more, whole (goal.at.loop-i-preserved c).At-loop-i)),
+    let bit = c.bit_at.ensures ∙ ap (bit_here a.ci a.on) c.loop-bit.invariant.0 ∙ sym (here_at a.ci a.on a.end a.n a.from i more) in (
+      c.next_place-place.ensures ∙ ap (λ (p : ℕ). (p + 1) % a.end) c.loop-bit.invariant.0 ∙ mod-add-mod (a.from + i) a.end 1 ∙ ap (λ (p : ℕ). p % a.end) on-by-one,
+      pasted_more _ (bits_here a.ci a.on a.end a.from a.n) i _ c.loop-bit.invariant.1 _ bit c.loop-bit-test.true (omega (arith, more, here_length a.ci a.on a.end a.from a.n)),
     )
-
-pub shape_of-out : goal.shape_of-out
-shape_of-out c = long (goal.at.shape_of-out c).At-loop-i
 
 pub returns : goal.returns
 returns c =
     let a = c.args in
-    let all : c.loop-i.i ≡ a.n = omega (arith, c.loop-i.invariant.0, c.loop-i-test.false) in (
-      c.loop-i.invariant.1 ∙ ap (λ (i : ℕ). (a.from + i) % a.end) all,
-      pasted_all a.out.now (bits (goal.at.returns c).At-loop-i) c.loop-i.i _ c.loop-i.invariant.2 (all ∙ sym (whole (goal.at.returns c).At-loop-i)),
+    let lent = length-take-le a.n a.out.now c.requires.n_in_bounds in
+    let bits = bits_here a.ci a.on a.end a.from a.n in
+    let all : c.loop-bit.bit-index ≡ a.n = omega (arith, lent, c.loop-bit-test.false, c.loop-bit.auto.bit-index-end) in
+    let long = here_length a.ci a.on a.end a.from a.n in (
+      c.loop-bit.invariant.0 ∙ ap (λ (i : ℕ). (a.from + i) % a.end) all,
+      filled bits a.out.now _ a.n long c.requires.n_in_bounds (pasted_all _ bits _ _ c.loop-bit.invariant.1 (all ∙ sym long)),
     )

@@ -1,21 +1,17 @@
--- `cadence::is_cadence` meets its contract: the four tests of `is_cadence`, in its order, and the first that fails decides.
+-- `cadence::is_cadence` meets its contract: the two ranges of `is_cadence`, in its order, and the first that fails decides.
 -- Assumes nothing.
-use Rattle.laws.proofs.Cases.{cases}
-use Rattle.laws.specs.Logic.{both}
+use mathlib.Core.Path.{sym, ◌∙◌}
+use Rattle.cadence.proofs.Within.{contained, rest_decides, range_decides}
 use Rattle.cadence.proofs.is_cadence.Goals as goal
 
-pub returns-then-off-ge-LEAST_OFF : goal.returns-then-off-ge-LEAST_OFF
-unfolding both
-returns-then-off-ge-LEAST_OFF c = search cases
+pub returns-then-contains : goal.returns-then-contains
+returns-then-contains c =
+    let on = sym (contained _ _ c.args.on _ c.new.ensures.start c.new.ensures.end c.new.ensures.exhausted) ∙ sym c.contains.ensures.value ∙ c.if-contains.true in
+    c.contains-then-contains.ensures.value
+    ∙ contained _ _ c.args.off _ c.new-then-contains.ensures.start c.new-then-contains.ensures.end c.new-then-contains.ensures.exhausted
+    ∙ rest_decides _ _ _ on
 
-pub returns-else-off-ge-LEAST_OFF : goal.returns-else-off-ge-LEAST_OFF
-unfolding both
-returns-else-off-ge-LEAST_OFF c = search cases
-
-pub returns-else-on-le-MOST_ON : goal.returns-else-on-le-MOST_ON
-unfolding both
-returns-else-on-le-MOST_ON c = search cases
-
-pub returns-else-on-ge-LEAST_ON : goal.returns-else-on-ge-LEAST_ON
-unfolding both
-returns-else-on-ge-LEAST_ON c = search cases
+pub returns-else-contains : goal.returns-else-contains
+returns-else-contains c =
+    let on = sym (contained _ _ c.args.on _ c.new.ensures.start c.new.ensures.end c.new.ensures.exhausted) ∙ sym c.contains.ensures.value ∙ c.if-contains.false in
+    c.if-contains.false ∙ range_decides _ _ _ on

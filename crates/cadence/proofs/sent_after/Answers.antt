@@ -6,10 +6,10 @@ use borrow.Author.Tests.{lt-ltb, le-ltb}
 use Rattle.laws.specs.Logic.{when}
 use Rattle.cadence.proofs.sent_after.Goals as goal
 
-pub returns-then-n-sent : goal.returns-then-n-sent
+pub returns-then-n-from : goal.returns-then-n-from
 unfolding when
-returns-then-n-sent c = simp (lt-ltb (c.args.sent + c.args.n) 90 (omega (arith, c.if-n-sent.true)))
+returns-then-n-from c = simp (lt-ltb (c.args.sent + c.args.n) 90 (omega (arith, c.if-n-from.true, c.from.ensures)))
 
 pub returns : goal.returns
 unfolding when
-returns c = simp (le-ltb (c.args.sent + c.args.n) 90 (omega (arith, c.if-n-sent.false)))
+returns c = simp (le-ltb (c.args.sent + c.args.n) 90 (omega (arith, c.if-n-from.false, c.from.ensures)))
