@@ -1,13 +1,13 @@
 -- What a word does, the end of a line and the end of a text.
 -- Assumes nothing.
-use Rattle.std.proofs.Common.{◌≡◌, ℕ, ◌+◌, ◌*◌, ◌<◌, ◌≤◌, Bool, true, false, eqb, ◌⊎◌, List, sym, refl, ap, ◌∙◌, inl, inr, arith, le-ltb, lt-ltb, eq-eqb, ne_eqb, eqb-true}
+use Rattle.std.proofs.Common.{◌≡◌, ℕ, ◌+◌, ◌*◌, ◌<◌, ◌≤◌, Bool, true, false, eqb, ◌⊎◌, List, Ok, sym, refl, ap, ◌∙◌, inl, inr, arith, le-ltb, lt-ltb, eq-eqb, ne_eqb, eqb-true}
 use Rattle.laws.specs.Logic.{when, either}
 use Rattle.laws.proofs.Logic.{either_way}
 use Rattle.names.specs.declared.Meaning.{Meaning}
 use Rattle.names.specs.Names.{end, line, function, mode, other_mode, part, wanted, quality, named}
 use Rattle.plans.specs.declared.Reading.{Reading}
 use Rattle.plans.specs.Text.{number, octet}
-use Rattle.plans.specs.Reading.{beginning, in_end, after_home, after_wants, after_call, after_te, after_damaged, first_bit, bits, done, first_octet, octets, after_cadence, after_on, after_answers, mistaken, going, say, name_function, name_home, name_mode, part_word, end_word, is_said, begin_named, behind_name, first_word, name_call, function_word, planning, name_word, number_word, octet_word, read_word, record_of, record_mistake, with_home, finish_end, finish_line, no_plan, answer, missing, with_default, finished, mode_first, twice, home, set_at, store, first_of}
+use Rattle.plans.specs.Reading.{beginning, in_end, after_home, after_wants, after_call, after_te, after_damaged, first_bit, bits, done, first_octet, octets, after_cadence, after_on, after_answers, mistaken, going, say, name_function, name_home, name_mode, part_word, end_word, is_said, begin_named, behind_name, first_word, name_call, function_word, planning, name_word, number_word, octet_word, read_word, record_of, record_mistake, with_home, finish_end, finish_line, mistake, missing, with_default, finished, mode_first, twice, home, set_at, store, first_of}
 use Rattle.plans.specs.Inner.{lacking}
 
 -- a word that names something: the kind of that decides too
@@ -166,16 +166,16 @@ one_answer wrong right true what missed is = refl
 one_answer wrong right false what missed is = simp is
 
 module _ (r last : Reading) (what at : ℕ) (is_last : last ≡ finish_line r) (is-what : what ≡ lacking last) where
-  answered : finished r at ≡ when (eqb what 0) (answer (with_default last.plan) 0 at) (answer no_plan what at)
+  answered : finished r at ≡ when (eqb what 0) (Ok (with_default last.plan)) (mistake what at)
   unfolding finished lacking
   answered =
-      simp (← is_last) (one_answer (λ (n : ℕ). answer no_plan n at) (answer (with_default last.plan) 0 at) (eqb last.what 0) last.what (missing last.plan) refl)
-      ∙ ap (λ (n : ℕ). when (eqb n 0) (answer (with_default last.plan) 0 at) (answer no_plan n at)) (sym is-what)
+      simp (← is_last) (one_answer (λ (n : ℕ). mistake n at) (Ok (with_default last.plan)) (eqb last.what 0) last.what (missing last.plan) refl)
+      ∙ ap (λ (n : ℕ). when (eqb n 0) (Ok (with_default last.plan)) (mistake n at)) (sym is-what)
 
-  pub finish_wrong : (what ≡ 0 → ⊥) → finished r at ≡ answer no_plan what at
+  pub finish_wrong : (what ≡ 0 → ⊥) → finished r at ≡ mistake what at
   unfolding when
   finish_wrong wrong = answered ∙ simp (ne_eqb what 0 wrong)
 
-  pub finish_right : what ≡ 0 → finished r at ≡ answer (with_default last.plan) 0 at
+  pub finish_right : what ≡ 0 → finished r at ≡ Ok (with_default last.plan)
   unfolding when
   finish_right right = answered ∙ simp (eq-eqb what 0 right)

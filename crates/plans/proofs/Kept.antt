@@ -1,7 +1,8 @@
 -- A text that is no mistake is a call that can be made, with the CM of a stranger where one calls: what is read stays good, line by line.
 -- Assumes nothing.
-use Rattle.std.proofs.Common.{◌≡◌, ℕ, ◌+◌, ◌%◌, ◌<◌, ◌≤◌, Bool, true, false, eqb, ltb, ◌⊎◌, List, [], ◌∷◌, ◌++◌, length, sym, refl, ap, ◌∙◌, subst, inl, inr, append_assoc, append-nil, arith, lit<, lit≤, ltb-true, eq-eqb, eqb-true}
+use Rattle.std.proofs.Common.{◌≡◌, ℕ, ◌+◌, ◌%◌, ◌<◌, ◌≤◌, Bool, true, false, eqb, ltb, ◌⊎◌, List, [], ◌∷◌, ◌++◌, length, Result, Ok, Err, sym, refl, ap, ◌∙◌, subst, inl, inr, append_assoc, append-nil, arith, lit<, lit≤, ltb-true, eq-eqb, eqb-true}
 use borrow.Author.Tests.{eqb-false}
+use Rattle.std.specs.Bool.{⊤}
 use Rattle.laws.specs.Logic.{when, both, either}
 use Rattle.laws.proofs.Logic.{either_way, clash}
 use Rattle.records.specs.declared.Record.{Record}
@@ -9,10 +10,10 @@ use Rattle.records.specs.Record.{in_use, bad_record}
 use Rattle.cadence.specs.Cadence.{is_cadence}
 use Rattle.steps.specs.Session.{is_te, default_te}
 use Rattle.plans.specs.declared.Plan.{Plan}
-use Rattle.plans.specs.declared.Answer.{Answer}
+use Rattle.plans.specs.declared.Mistake.{Mistake}
 use Rattle.plans.specs.declared.Reading.{Reading}
 use Rattle.plans.specs.Text.{line_feed, word}
-use Rattle.plans.specs.Reading.{beginning, in_end, bits, octets, first_octet, stranger, done, default_on, default_off, default_answer, is_on, is_answer, no_function, home_not_had, pcm_alone, no_caller, no_answerer, no_call, place, home, set_at, store, lacks_call, planning, is_stranger, is_said, record_of, record_mistake, with_home, finish_end, may_end, finish_line, scan_after, begins_word, read_byte, no_plan, fresh, answer, missing, with_default, finished, read_from, octet_at, one_octet, octets_from, octets_in, cm_in}
+use Rattle.plans.specs.Reading.{beginning, in_end, bits, octets, first_octet, stranger, done, default_on, default_off, default_answer, is_on, is_answer, no_function, home_not_had, pcm_alone, no_caller, no_answerer, no_call, place, home, set_at, store, lacks_call, planning, is_stranger, is_said, record_of, record_mistake, with_home, finish_end, may_end, finish_line, scan_after, begins_word, read_byte, no_plan, fresh, missing, with_default, finished, read_from, octet_at, one_octet, octets_from, octets_in, cm_in}
 use Rattle.plans.specs.Good.{GoodEnd, KnownCaller, Stranger, Good, PlansAreGood}
 use Rattle.plans.proofs.Cadences.{both_periods}
 use Rattle.plans.proofs.Marking.{zeros_at}
@@ -199,12 +200,10 @@ good_plan cm r kept out none_missing =
       answers = answer_given plan.answers kept.parts.answers;
     }
 
--- an answer that is no mistake, and the octets of a stranger's CM: some, or none of a caller that is known
-abbrev Told : List ℕ → Answer → Type 0
-Told cm told = told.what ≡ 0 → Good told.plan × (told.plan.function ≡ stranger → 0 < length cm) × ((told.plan.function ≡ stranger → ⊥) → cm ≡ [])
-
-no_mistake : (cm : List ℕ) (what at : ℕ) → eqb what 0 ≡ false → Told cm (answer no_plan what at)
-no_mistake cm what at wrong right = clash (sym (eq-eqb what 0 right) ∙ wrong)
+-- a plan that a text is, and the octets of a stranger's CM: some, or none of a caller that is known
+abbrev Told : List ℕ → Result Plan Mistake → Type 0
+Told cm (Ok plan) = Good plan × (plan.function ≡ stranger → 0 < length cm) × ((plan.function ≡ stranger → ⊥) → cm ≡ [])
+Told cm (Err wrong) = ⊤
 
 good_finish : (cm : List ℕ) (r : Reading) (at : ℕ) → Kept cm r → Told cm (finished r at)
 unfolding finished
@@ -214,10 +213,10 @@ good_finish cm r at kept =
     (λ right.
     let now = kept_line cm r kept (eqb-true last.what 0 right) in
     either_way (Told cm) (eqb (missing last.plan) 0) _ _
-    (λ none_missing _.
+    (λ none_missing.
     (good_plan cm last now.0 now.1 (eqb-true (missing last.plan) 0 none_missing), cm_known now.0.calling now.2, now.0.calling.none))
-    (no_mistake cm (missing last.plan) at))
-    (no_mistake cm last.what at)
+    (λ _. tt))
+    (λ _. tt)
 
 good_text : (text cm : List ℕ) (r : Reading) (scan at : ℕ) → Kept cm r → Told (cm ++ octets_from 1 r scan text) (read_from r scan at text)
 unfolding read_from octets_from
@@ -230,7 +229,7 @@ good_text (b ∷ rest) cm r scan at kept =
     either_way (Told all) (eqb next.what 0) _ _
     (λ right. subst (λ (list : List ℕ). Told list (read_from next (scan_after scan b) (at + 1) rest)) (append_assoc cm one others)
     (good_text rest (cm ++ one) next (scan_after scan b) (at + 1) (kept_byte cm r kept scan b rest (eqb-true next.what 0 right))))
-    (no_mistake all next.what at)
+    (λ _. tt)
 
 kept_fresh : Kept [] fresh
 unfolding lacks_call both either when
@@ -251,7 +250,7 @@ kept_fresh = record {
 
 pub plans_are_good : PlansAreGood
 unfolding octets_in when
-plans_are_good text right =
-    let told = good_text text [] fresh 0 0 kept_fresh right in
+plans_are_good text plan right =
+    let told = subst (Told (octets_from 1 fresh 0 text)) right (good_text text [] fresh 0 0 kept_fresh) in
     let same : octets_from 1 fresh 0 text ≡ cm_in text = rw right in
     (told.0, record { octets = are_octets 1 text; some = λ is. rw (← same) (told.1 is); none = λ no. sym same ∙ told.2 no })

@@ -1,7 +1,7 @@
 -- Marks stay marks, whatever text is read: each bit is marked or not. So the marks of a text, over zeros, are those of its plain form. What it gives as
 -- blocks or as a CM are octets.
 -- Assumes nothing.
-use Rattle.std.proofs.Common.{◌≡◌, ℕ, zero, suc, Bool, true, eqb, ltb, leb, List, [], ◌∷◌, set, replicate, refl, ap, ◌∙◌, ap₂, length-set}
+use Rattle.std.proofs.Common.{◌≡◌, ℕ, zero, suc, Bool, true, ltb, leb, List, [], ◌∷◌, is_ok, set, replicate, refl, ap, ◌∙◌, ap₂, length-set}
 use lib.ListN.{length-replicate}
 use Rattle.laws.specs.Logic.{both}
 use Rattle.laws.specs.Tests.{every}
@@ -33,7 +33,7 @@ marks_on (b ∷ rest) r scan damaged marks =
 
 pub marked_are_marks : (text damaged : List ℕ) → Marks damaged → Marks (marked text damaged)
 unfolding marked
-marked_are_marks text damaged marks = either_way Marks (eqb (read_text text).what 0) (marked_from fresh between text damaged) damaged (λ _. marks_on text fresh between damaged marks) (λ _. marks)
+marked_are_marks text damaged marks = either_way Marks (is_ok (read_text text)) (marked_from fresh between text damaged) damaged (λ _. marks_on text fresh between damaged marks) (λ _. marks)
 
 -- none is marked
 bits_none : (n : ℕ) → bits (zeros n) ≡ true
@@ -60,7 +60,7 @@ octets_on (b ∷ rest) end r scan =
 
 pub are_octets : (end : ℕ) (text : List ℕ) → Octets (octets_in end text)
 unfolding octets_in every
-are_octets end text = either_way Octets (eqb (read_text text).what 0) (octets_from end fresh between text) [] (λ _. octets_on text end fresh between) (λ _. refl)
+are_octets end text = either_way Octets (is_ok (read_text text)) (octets_from end fresh between text) [] (λ _. octets_on text end fresh between) (λ _. refl)
 
 pub blocks_are_octets : BlocksAreOctets
 blocks_are_octets text = are_octets 0 text

@@ -1,7 +1,7 @@
 -- The plain form of a call is read as that call, with the same CM of a stranger, the same blocks and the same bits damaged, and so it is without its
 -- line for Te where Te is the default, or without those for a cadence and for the answer: in both the lines of the ends are read, then those that tell the call, then the blocks, then the damaged bits.
 -- Assumes nothing.
-use Rattle.std.proofs.Common.{◌≡◌, ℕ, zero, suc, ◌+◌, ◌<◌, true, false, eqb, List, [], ◌∷◌, ◌++◌, length, get_or, take, drop, replicate, sym, refl, ap, ◌∙◌, subst, ⊎_elim, append-nil, arith, lit<, eqb→eq, drop_of_length-le, drop-cons, le-ltb, lt-ltb, eq-eqb, ne_eqb}
+use Rattle.std.proofs.Common.{◌≡◌, ℕ, zero, suc, ◌+◌, ◌<◌, true, false, eqb, List, [], ◌∷◌, ◌++◌, length, Ok, get_or, take, drop, replicate, sym, refl, ap, ◌∙◌, subst, ⊎_elim, append-nil, arith, lit<, eqb→eq, drop_of_length-le, drop-cons, le-ltb, lt-ltb, eq-eqb, ne_eqb}
 use Rattle.laws.specs.Logic.{when, both, either}
 use Rattle.laws.specs.Tests.{all_below}
 use Rattle.laws.proofs.Logic.{clash}
@@ -9,10 +9,9 @@ use Rattle.laws.proofs.Computed.{below}
 use Rattle.names.specs.Bytes.{bytes}
 use Rattle.steps.proofs.Ticks.{between_true}
 use Rattle.plans.specs.declared.Plan.{Plan}
-use Rattle.plans.specs.declared.Answer.{Answer}
 use Rattle.plans.specs.declared.Reading.{Reading}
 use Rattle.plans.specs.Text.{word_length}
-use Rattle.plans.specs.Reading.{beginning, done, octets, stranger, default_on, default_off, default_answer, planned, home, place, set_at, lacks_call, record_of, no_plan, fresh, is_said, finish_line, with_default, missing, answer, finished, read_text, bit_place, marked, octets_in, blocks_in, cm_in}
+use Rattle.plans.specs.Reading.{beginning, done, octets, stranger, default_on, default_off, default_answer, planned, home, place, set_at, lacks_call, record_of, no_plan, fresh, is_said, finish_line, with_default, missing, finished, read_text, bit_place, marked, octets_in, blocks_in, cm_in}
 use Rattle.plans.specs.Plain.{end_text, octets_text, bits_text, damage_text, caller_text, called_text, head_text, te_text, cadence_text, answers_text, plain}
 use Rattle.plans.specs.Good.{KnownCaller, Stranger, Good, Marks, Octets, Given, IsReadAs, PlainReadsBack, TeIsTheDefault, CadenceIsTheDefault, AnswerIsTheDefault}
 use Rattle.plans.proofs.Cadences.{in_range_lem}
@@ -189,7 +188,7 @@ module _ (plan : Plan) (good : Good plan) (cm : List ℕ) (given : Given plan cm
   none_missing te on off answers = simp (caller_said te on off answers, (others_said te on off answers).0, (others_said te on off answers).1)
 
   is_finished :
-      (te on off answers : ℕ) → with_default (told te on off answers) ≡ plan → (before : Line) (at : ℕ) → finished (reading (told te on off answers) before beginning) at ≡ answer plan 0 at
+      (te on off answers : ℕ) → with_default (told te on off answers) ≡ plan → (before : Line) (at : ℕ) → finished (reading (told te on off answers) before beginning) at ≡ Ok plan
   unfolding finished finish_line when either
   is_finished te on off answers as-meant before at = simp (none_missing te on off answers, as-meant)
 
@@ -277,25 +276,22 @@ module _ (plan : Plan) (cm blocks damaged : List ℕ) (good : Good plan) (given 
         let run = join lists refl (fed bits.1.1 refl (nothing (reading call bits.1.0 beginning) (after d whose))) in
         (bits.1.0, rw (damage_there call damaged with_blocks marks) run)
 
-    read_back : read_text text ≡ answer plan 0 (length text)
+    read_back : read_text text ≡ Ok plan
     read_back =
         let all = whole_run [] 0 in
-        whole_read all.1 0 ∙ is_finished plan good cm given te on off answers as-meant all.0 (0 + length text) ∙ ap (answer plan 0) (omega arith)
-
-    right : (read_text text).what ≡ 0
-    right = ap (λ (a : Answer). a.what) read_back
+        whole_read all.1 0 ∙ is_finished plan good cm given te on off answers as-meant all.0 (0 + length text)
 
     cm_back : cm_in text ≡ cm
     unfolding octets_in when
-    cm_back = rw right (whole_given (whole_run [] 1).1 ∙ append-nil cm)
+    cm_back = rw read_back (whole_given (whole_run [] 1).1 ∙ append-nil cm)
 
     blocks_back : blocks_in text ≡ blocks
     unfolding octets_in when
-    blocks_back = rw right (whole_given (whole_run [] 0).1)
+    blocks_back = rw read_back (whole_given (whole_run [] 0).1)
 
     marked_back : marked text (zeros (9000 + 9000)) ≡ damaged
     unfolding marked when
-    marked_back = rw right (whole_marked (whole_run (zeros (9000 + 9000)) 0).1 ∙ halves_marked 9000 damaged marks.both_ends marks.bits)
+    marked_back = rw read_back (whole_marked (whole_run (zeros (9000 + 9000)) 0).1 ∙ halves_marked 9000 damaged marks.both_ends marks.bits)
 
     is_read_as : IsReadAs plan cm blocks damaged text
     is_read_as = (read_back, cm_back, blocks_back, marked_back)

@@ -5,7 +5,7 @@ use Rattle.laws.specs.Logic.{when, either}
 use Rattle.laws.proofs.Logic.{either_way}
 use Rattle.plans.specs.declared.Reading.{Reading}
 use Rattle.plans.specs.Text.{blank, ends_word, word_length, word, no_number, with_digit, number_on, line_feed, comment, line_feeds, word_at, no_octet}
-use Rattle.plans.specs.Reading.{read_word, finish_line, between, in_word, in_comment, scan_after, begins_word, read_byte, no_plan, answer, finished, read_from, is_bit, marked_bit, marked_from, octet_at, one_octet, octets_from}
+use Rattle.plans.specs.Reading.{read_word, finish_line, between, in_word, in_comment, scan_after, begins_word, read_byte, mistake, finished, read_from, is_bit, marked_bit, marked_from, octet_at, one_octet, octets_from}
 use Rattle.plans.specs.Inner.{nowhere, bit_at}
 
 -- nothing is written past the end
@@ -162,7 +162,7 @@ module _ (text : List ℕ) (i : ℕ) where
         unfolding read_from when
         read_on after is-after right = simp (here, ← is-next, eq-eqb next.what 0 right, is-after)
 
-        pub read_stop : (next.what ≡ 0 → ⊥) → read_from r scan i (drop i text) ≡ answer no_plan next.what i
+        pub read_stop : (next.what ≡ 0 → ⊥) → read_from r scan i (drop i text) ≡ mistake next.what i
         unfolding read_from when
         read_stop wrong = simp (here, ← is-next, ne_eqb next.what 0 wrong)
 

@@ -1,12 +1,12 @@
 -- The plans that texts say: what reading gives, and what the plain form gives back.
-use Rattle.std.specs.Prelude.{◌≡◌, ℕ, ◌%◌, ◌<◌, ◌≤◌, true, false, ◌⊎◌, List, [], ◌++◌, length, replicate, ◌≢◌, nat_le, nat_lt}
+use Rattle.std.specs.Prelude.{◌≡◌, ℕ, ◌%◌, ◌<◌, ◌≤◌, true, false, ◌⊎◌, List, [], ◌++◌, length, replicate, Ok, ◌≢◌, nat_le, nat_lt}
 use Rattle.laws.specs.Tests.{every}
 use Rattle.names.specs.Bytes.{bytes}
 use Rattle.records.specs.Record.{bad_record}
 use Rattle.cadence.specs.Cadence.{is_cadence}
 use Rattle.steps.specs.Session.{is_te}
 use Rattle.plans.specs.declared.Plan.{Plan}
-use Rattle.plans.specs.Reading.{home, stranger, set_at, is_answer, record_of, answer, read_text, marked, blocks_in, cm_in}
+use Rattle.plans.specs.Reading.{home, stranger, set_at, is_answer, record_of, read_text, marked, blocks_in, cm_in}
 use Rattle.plans.specs.Plain.{octets_text, damage_text, head_text, te_text, cadence_text, answers_text, plain}
 
 -- an end whose record is accepted: sets of sixteen numbers; nothing is said of a function that it has not; the home function is one of six; it wants
@@ -55,16 +55,16 @@ pub record Given (plan : Plan) (cm : List ℕ) : Type 0 where
 
 -- a text that is no mistake is a call that can be made, with the CM of a stranger where one calls
 abbrev pub PlansAreGood : Type 0
-PlansAreGood = (text : List ℕ) → (read_text text).what ≡ 0 → Good (read_text text).plan × Given (read_text text).plan (cm_in text)
+PlansAreGood = (text : List ℕ) (plan : Plan) → read_text text ≡ Ok plan → Good plan × Given plan (cm_in text)
 
 -- what a text gives as blocks are octets
 abbrev pub BlocksAreOctets : Type 0
 BlocksAreOctets = (text : List ℕ) → Octets (blocks_in text)
 
--- a text that is read, to its end, as this call with this CM, these blocks and these bits damaged
+-- a text that is read as this call with this CM, these blocks and these bits damaged
 abbrev pub IsReadAs : Plan → List ℕ → List ℕ → List ℕ → List ℕ → Type 0
 IsReadAs plan cm blocks damaged text =
-    (read_text text ≡ answer plan 0 (length text)) × (cm_in text ≡ cm) × (blocks_in text ≡ blocks) × (marked text (replicate 18000 0) ≡ damaged)
+    (read_text text ≡ Ok plan) × (cm_in text ≡ cm) × (blocks_in text ≡ blocks) × (marked text (replicate 18000 0) ≡ damaged)
 
 -- the plain form of a call that can be made is read as that call, with the same CM, the same blocks and the same bits damaged
 abbrev pub PlainReadsBack : Type 0
@@ -105,13 +105,13 @@ AnswerIsTheDefault =
     (plan : Plan) (cm blocks damaged : List ℕ) → Good plan → Given plan cm → Octets blocks → Marks damaged → plan.answers ≡ 200
     → IsReadAs plan cm blocks damaged (without_answer plan cm blocks damaged)
 
--- what any text says, in plain form
-abbrev pub plain_of : List ℕ → List ℕ
-plain_of text = plain (read_text text).plan (cm_in text) (blocks_in text) (marked text (replicate 18000 0))
+-- what any text says that is this plan, in plain form
+abbrev pub plain_of : Plan → List ℕ → List ℕ
+plain_of plan text = plain plan (cm_in text) (blocks_in text) (marked text (replicate 18000 0))
 
 -- so what any text says is said again by the plain form of it
 abbrev pub ReadsAgain : Type 0
 ReadsAgain =
-    (text : List ℕ) → (read_text text).what ≡ 0
-    → ((read_text (plain_of text)).plan ≡ (read_text text).plan) × (cm_in (plain_of text) ≡ cm_in text) × (blocks_in (plain_of text) ≡ blocks_in text)
-    × (marked (plain_of text) (replicate 18000 0) ≡ marked text (replicate 18000 0))
+    (text : List ℕ) (plan : Plan) → read_text text ≡ Ok plan
+    → (read_text (plain_of plan text) ≡ Ok plan) × (cm_in (plain_of plan text) ≡ cm_in text) × (blocks_in (plain_of plan text) ≡ blocks_in text)
+    × (marked (plain_of plan text) (replicate 18000 0) ≡ marked text (replicate 18000 0))

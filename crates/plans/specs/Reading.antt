@@ -1,5 +1,5 @@
 -- A call text, read into a plan or the first mistake in it.
-use Rattle.std.specs.Prelude.{ℕ, ◌+◌, ◌*◌, ◌/◌, ◌%◌, ◌^◌, Bool, false, List, [], ◌∷◌, ◌++◌, replicate, ◌==◌, nat_lt, slice_index, slice_set}
+use Rattle.std.specs.Prelude.{ℕ, ◌+◌, ◌*◌, ◌/◌, ◌%◌, ◌^◌, Bool, false, List, [], ◌∷◌, ◌++◌, replicate, Result, Ok, Err, is_ok, ◌==◌, nat_lt, slice_index, slice_set}
 use Rattle.laws.specs.Logic.{when, both, either}
 use Rattle.items.specs.Items.{in_set}
 use Rattle.names.specs.declared.Meaning.{Meaning}
@@ -10,7 +10,7 @@ use Rattle.records.specs.Record.{in_use, bad_record}
 use Rattle.cadence.specs.Cadence.{is_cadence}
 use Rattle.steps.specs.Session.{between as in_range, is_te, default_te}
 use Rattle.plans.specs.declared.Plan.{Plan}
-use Rattle.plans.specs.declared.Answer.{Answer}
+use Rattle.plans.specs.declared.Mistake.{Mistake}
 use Rattle.plans.specs.declared.Reading.{Reading}
 use Rattle.plans.specs.Text.{blank, ends_word, line_feed, comment, word, number, no_octet, octet}
 
@@ -446,8 +446,9 @@ no_plan = planned (replicate 16 0) 0 0
 abbrev pub fresh : Reading
 fresh = record { plan = no_plan; end = 0; function = 0; first = 0; context = beginning; what = 0 }
 
-abbrev pub answer : Plan → ℕ → ℕ → Answer
-answer plan what at = record { plan = plan; what = what; at = at }
+-- a text that is no plan has this mistake at a place
+abbrev pub mistake : ℕ → ℕ → Result Plan Mistake
+mistake what at = Err (record { what = what; at = at })
 
 -- what a text lacks that was read to its end, or 0
 unfoldable pub missing : Plan → ℕ
@@ -466,24 +467,24 @@ with_default plan = record {
 }
 
 -- a text that was read to its end: its last line, then what is missing
-unfoldable pub finished : Reading → ℕ → Answer
+unfoldable pub finished : Reading → ℕ → Result Plan Mistake
 finished r at =
     when ((finish_line r).what == 0)
     (when (missing (finish_line r).plan == 0)
-    (answer (with_default (finish_line r).plan) 0 at)
-    (answer no_plan (missing (finish_line r).plan) at))
-    (answer no_plan (finish_line r).what at)
+    (Ok (with_default (finish_line r).plan))
+    (mistake (missing (finish_line r).plan) at))
+    (mistake (finish_line r).what at)
 
 -- a text from a place on: up to the first mistake, or to its end
-unfoldable pub read_from : Reading → ℕ → ℕ → List ℕ → Answer
+unfoldable pub read_from : Reading → ℕ → ℕ → List ℕ → Result Plan Mistake
 read_from r scan at [] = finished r at
 read_from r scan at (b ∷ rest) =
     when ((read_byte r scan b rest).what == 0)
     (read_from (read_byte r scan b rest) (scan_after scan b) (at + 1) rest)
-    (answer no_plan (read_byte r scan b rest).what at)
+    (mistake (read_byte r scan b rest).what at)
 
 -- a text is a plan, or the first mistake in it with its place
-abbrev pub read_text : List ℕ → Answer
+abbrev pub read_text : List ℕ → Result Plan Mistake
 read_text text = read_from fresh between 0 text
 
 -- the place of a bit of an end among the bits of both
@@ -504,7 +505,7 @@ marked_from r scan (b ∷ rest) damaged = marked_from (read_byte r scan b rest) 
 
 -- the damaged bits of a text that is a plan
 unfoldable pub marked : List ℕ → List ℕ → List ℕ
-marked text damaged = when ((read_text text).what == 0) (marked_from fresh between text damaged) damaged
+marked text damaged = when (is_ok (read_text text)) (marked_from fresh between text damaged) damaged
 
 -- an octet of an end's line stands at a byte, or one of a line that is about none
 abbrev pub is_octet : ℕ → Reading → ℕ → ℕ → Bool
@@ -524,7 +525,7 @@ octets_from end r scan (b ∷ rest) = one_octet (octet_at end r scan b rest) ++ 
 
 -- the octets of an end's line, or of lines about none, in a text that is a plan
 unfoldable pub octets_in : ℕ → List ℕ → List ℕ
-octets_in end text = when ((read_text text).what == 0) (octets_from end fresh between text) []
+octets_in end text = when (is_ok (read_text text)) (octets_from end fresh between text) []
 
 -- the octets of the caller's blocks, and those of the CM that a stranger sends
 abbrev pub blocks_in : List ℕ → List ℕ

@@ -21,7 +21,7 @@ ghost use Rattle.laws.specs.Logic.{when, both};
 ghost use Rattle.laws.specs.Front.{front};
 ghost use Rattle.printing.specs.Page.{page, typed};
 ghost use Rattle.plans.specs.Text.{word_length, number, hex_value, octet, lines_before, word_at};
-ghost use Rattle.plans.specs.Reading.{mistaken, going, place, set_at, store, added, say, first_of, is_said, begin_named, behind_name, lacks_call, planning, cadenced, answering, all_said, nothing_yet, part_word, name_word, is_on, is_answer, number_word, listed, one_of, read_word, modes_of, record_of, record_mistake, with_home, finish_end, finish_line, between, scan_after, begins_word, read_byte, no_plan, fresh, answer, finished, read_text, bit_place, marked, octet_at, octets_in, call_not_had, default_on, default_off, default_answer};
+ghost use Rattle.plans.specs.Reading.{mistaken, going, place, set_at, store, added, say, first_of, is_said, begin_named, behind_name, lacks_call, planning, cadenced, answering, all_said, nothing_yet, part_word, name_word, is_on, is_answer, number_word, listed, one_of, read_word, modes_of, record_of, record_mistake, with_home, finish_end, finish_line, between, scan_after, begins_word, read_byte, fresh, finished, read_text, bit_place, marked, octet_at, octets_in, call_not_had, default_on, default_off, default_answer};
 ghost use Rattle.plans.specs.Plain.{function_text, end_text, entry_front, octets_text, bits_text, caller_text, called_text, head_text, te_text, cadence_text, answers_text, plain};
 ghost use Rattle.plans.specs.Inner.{Writes, told_text, home_text, front_of, piece_text, Front, front_text, lacking, bit_at};
 ghost use Rattle.cadence.specs.Cadence.{is_cadence};
@@ -196,10 +196,9 @@ pub struct Plan {
     pub answers: u16,
 }
 
-// A plan; or, where `what` is not 0, the first mistake of a text and its place.
-#[derive(Clone, Copy)]
-pub struct Answer {
-    pub plan: Plan,
+// The first mistake of a text, by its number, and its place.
+#[derive(Clone, Copy, Debug, PartialEq, Eq)]
+pub struct Mistake {
     pub what: u8,
     pub at: usize,
 }
@@ -795,23 +794,6 @@ fn begin() -> Reading
     }
 }
 
-fn mistake(what: u8, at: usize) -> Answer
-    ensures { result ≡ answer no_plan what at }
-{
-    Answer {
-        plan: Plan {
-            sets: [0u16; 16],
-            function: 0,
-            te: 0,
-            on: 0,
-            off: 0,
-            answers: 0,
-        },
-        what: what,
-        at: at,
-    }
-}
-
 // Te of a plan that gives none is that of a start without a value.
 fn te_of(te: u16) -> u16
     ensures { result ≡ when (te == 0) default_te te }
@@ -871,28 +853,26 @@ fn lacking(r: Reading) -> u8
 }
 
 // A text that was read to its end: its last line, then what is missing.
-fn finish(r: Reading, at: usize) -> Answer
+fn finish(r: Reading, at: usize) -> Result<Plan, Mistake>
     ensures { result ≡ finished r at }
 {
     let last = finish_line(r);
     let what = lacking(last);
     if what != 0 {
-        return mistake(what, at);
+        return Err(Mistake { what, at });
     }
-    let mut plan = last.plan;
-    plan.te = te_of(plan.te);
-    plan.on = on_of(plan.on);
-    plan.off = off_of(plan.off);
-    plan.answers = answers_of(plan.answers);
-    Answer {
-        plan: plan,
-        what: 0,
-        at: at,
-    }
+    let said = last.plan;
+    Ok(Plan {
+        te: te_of(said.te),
+        on: on_of(said.on),
+        off: off_of(said.off),
+        answers: answers_of(said.answers),
+        ..said
+    })
 }
 
 // Reads a text: a plan, or the first mistake in it.
-pub fn read(text: &[u8]) -> Answer
+pub fn read(text: &[u8]) -> Result<Plan, Mistake>
     ensures { result ≡ read_text text.now }
 {
     let mut r = begin();
@@ -901,7 +881,10 @@ pub fn read(text: &[u8]) -> Answer
     while i < text.len() {
         r = read_byte(r, scan, text, i);
         if r.what != 0 {
-            return mistake(r.what, i);
+            return Err(Mistake {
+                what: r.what,
+                at: i,
+            });
         }
         scan = scan_after(scan, text[i]);
         i += 1;
@@ -968,7 +951,7 @@ pub fn mark(text: &[u8], damaged: &mut [u8])
     ensures { damaged.new ≡ marked text.now damaged.old }
 {
     let plan = read(text);
-    if plan.what != 0 {
+    if plan.is_err() {
         return;
     }
     let mut r = begin();
@@ -988,7 +971,7 @@ pub fn put_octets_of(text: &[u8], end: u8, out: &mut [u8]) -> usize
     ensures octets { out.new ≡ front (take (length out.old) (octets_in end text.now)) out.old }
 {
     let call = read(text);
-    if call.what != 0 {
+    if call.is_err() {
         return 0;
     }
     let mut r = begin();

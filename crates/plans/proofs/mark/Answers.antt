@@ -1,6 +1,6 @@
 -- `plans::mark` meets its contract. Invariant: what is left of the text, marked on from here, leaves what the whole text does.
 -- Assumes nothing.
-use Rattle.std.proofs.Common.{◌+◌, ◌≤◌, length, sym, ap, ◌∙◌, arith, w64, Fits, rules, eq-eqb, ne_eqb}
+use Rattle.std.proofs.Common.{◌+◌, ◌≤◌, length, sym, ap, ◌∙◌, arith, w64, Fits, rules}
 use Rattle.laws.specs.Logic.{when}
 use Rattle.plans.specs.declared.Reading.{Reading}
 use Rattle.plans.specs.Reading.{between, marked_from, marked}
@@ -9,9 +9,9 @@ use Rattle.plans.proofs.Walk.{marked_on, marked_end}
 use Rattle.plans.proofs.mark.Goals.{At-loop-i, In-loop-i}
 use Rattle.plans.proofs.mark.Goals as goal
 
-pub returns-then-plan-ne0 : goal.returns-then-plan-ne0
+pub returns-then-is_err : goal.returns-then-is_err
 unfolding when marked
-returns-then-plan-ne0 c = simp (ne_eqb _ _ c.if-plan-ne0.true, ← c.read-plan.ensures)
+returns-then-is_err c = simp (← c.read-plan.ensures, c.is_err.ensures.negation, c.if-is_err.true)
 
 pub loop-i-init : goal.loop-i-init
 loop-i-init c = (let args = c.args in ap (λ (r : Reading). marked_from r between args.text.now args.damaged.now) c.begin-r.ensures, search rules, search rules)
@@ -37,4 +37,4 @@ pub returns : goal.returns
 unfolding when marked
 returns c =
     let args = c.args in
-    sym (marked_end args.text.now c.loop-i.i (search rules) c.loop-i.r c.loop-i.scan c.loop-i.damaged) ∙ c.loop-i.invariant.0 ∙ simp (eq-eqb _ _ c.if-plan-ne0.false, ← c.read-plan.ensures)
+    sym (marked_end args.text.now c.loop-i.i (search rules) c.loop-i.r c.loop-i.scan c.loop-i.damaged) ∙ c.loop-i.invariant.0 ∙ simp (← c.read-plan.ensures, c.is_err.ensures.negation, c.if-is_err.false)

@@ -1,6 +1,6 @@
 -- `plans::put_octets_of` meets its contract. Invariant: the octets that are written and those of the rest of the text are all of them.
 -- Assumes nothing.
-use Rattle.std.proofs.Common.{◌≡◌, ℕ, ◌+◌, List, [], length, drop, sym, ap, ◌∙◌, subst, arith, w64, Fits, rules, eq-eqb, ne_eqb}
+use Rattle.std.proofs.Common.{◌≡◌, ℕ, ◌+◌, List, [], length, drop, sym, ap, ◌∙◌, subst, arith, w64, Fits, rules}
 use mir.Facts.{Fits-below}
 use Rattle.laws.specs.Logic.{when}
 use Rattle.plans.specs.declared.Reading.{Reading}
@@ -11,11 +11,11 @@ use Rattle.plans.proofs.put_octets_of.Goals.{In-loop-i}
 use Rattle.plans.proofs.put_octets_of.Goals.{then-b-lt-NO_OCTET, else-b-lt-NO_OCTET}
 use Rattle.plans.proofs.put_octets_of.Goals as goal
 
-pub returns-then-call-ne0 : goal.returns-then-call-ne0
+pub returns-then-is_err : goal.returns-then-is_err
 unfolding octets_in when
-returns-then-call-ne0 c =
+returns-then-is_err c =
     let args = c.args in
-    let none : octets_in args.end args.text.now ≡ [] = simp (ne_eqb _ _ c.if-call-ne0.true, ← c.read-call.ensures) in
+    let none : octets_in args.end args.text.now ≡ [] = simp (← c.read-call.ensures, c.is_err.ensures.negation, c.if-is_err.true) in
     record { count = ap length (sym none); octets = sym (ap (λ (list : List ℕ). fitted list args.out.now) none ∙ fitted_none args.out.now) }
 
 pub loop-i-init : goal.loop-i-init
@@ -69,6 +69,6 @@ pub returns : goal.returns
 unfolding octets_in when
 returns c =
     let args = c.args in
-    let is-plan : octets_in args.end args.text.now ≡ octets_from args.end fresh between args.text.now = simp (eq-eqb _ _ c.if-call-ne0.false, ← c.read-call.ensures) in
+    let is-plan : octets_in args.end args.text.now ≡ octets_from args.end fresh between args.text.now = simp (← c.read-call.ensures, c.is_err.ensures.negation, c.if-is_err.false) in
     let written = written_all c.loop-i.invariant.0 (octets_end args.text.now c.loop-i.i c.loop-i-test.false args.end c.loop-i.r c.loop-i.scan) in
     record { count = written.0 ∙ ap length (sym is-plan); octets = written.1 ∙ ap (λ (list : List ℕ). fitted list args.out.now) (sym is-plan) }

@@ -11,8 +11,7 @@ loop-i-init c = (ap (λ (r : Reading). read_from r between 0 c.args.text.now) c.
 
 pub returns-then-r-ne0 : goal.returns-then-r-ne0
 returns-then-r-ne0 c =
-    c.mistake.ensures
-    ∙ sym (read_stop c.args.text.now c.loop-i.i c.loop-i-test.true c.loop-i.r c.loop-i.scan c.read_byte-r.result c.read_byte-r.ensures c.if-r-ne0.true)
+    sym (read_stop c.args.text.now c.loop-i.i c.loop-i-test.true c.loop-i.r c.loop-i.scan c.read_byte-r.result c.read_byte-r.ensures c.if-r-ne0.true)
     ∙ c.loop-i.invariant.0
 
 pub loop-i-preserved : goal.loop-i-preserved
