@@ -1,13 +1,15 @@
 // Lists what is heard in the characters 0 and 1 of standard input, a line for each report, as document 01 lays down at the end
 // of 'Worked values'. Input is read in blocks, and what a block reports is gathered and written at once.
-#![tactic(auto)]
+#![tactic(auto, using(printing::proofs::Pages::text_within, printing::proofs::Pages::decimal_within))]
 
-ghost use Rattle.std.specs.Prelude.{◌≤◌, length};
+ghost use Rattle.std.specs.Prelude.{◌≤◌, ◌<◌, length};
 ghost use Rattle.listening.proofs.Ranges.{Fits};
 
 use listening::{Heard, Listener};
-use printing::{put_decimal, put_octet, put_text};
+use printing::Page;
+use refusals::Refusal;
 use std::io::{Read, Stdin};
+use std::marker::Model;
 
 // Room that is kept for the next line, which has at most 222 bytes: 20 digits, a word of four, 64 octets, three digits, and what parts
 // and ends them.
@@ -16,236 +18,176 @@ const LINE_ROOM: usize = 256;
 // The number of standard output.
 const STDOUT: i32 = 1;
 
-// The line's record, how many bits were heard, and whether more may come.
+// The line's record, and how many bits were heard.
 #[derive(Clone, Copy)]
 struct State {
     rec: Listener,
     bits: u64,
-    on: bool,
+    ghost fits: { Fits rec },
 }
 
-// Octets with single spaces between, or - where there are none.
-fn put_octets(out: &mut [u8], at: usize, octets: &[u8]) -> usize
-    requires { at ≤ length out.old }
-    ensures { result ≤ length out.new }
-{
-    if octets.len() == 0 {
-        return put_text(out, at, b"-");
-    }
-    let mut n = put_octet(out, at, octets[0]);
-    let mut i: usize = 1;
-    while i < octets.len() {
-        n = put_text(out, n, b" ");
-        n = put_octet(out, n, octets[i]);
-        i += 1;
-    }
-    n
+// The lines that are gathered, on a page that they never leave.
+#[derive(Drop)]
+struct Lines<'a> {
+    page: Page<'a>,
 }
 
-// Behind the word for a message: its octets and its span.
-fn put_fields(out: &mut [u8], at: usize, octets: &[u8], span: u16) -> usize
-    requires { at ≤ length out.old }
-    ensures { result ≤ length out.new }
-{
-    let n = put_octets(out, at, octets);
-    let m = put_text(out, n, b"\t");
-    let k = put_decimal(out, m, span as u64);
-    put_text(out, k, b"\n")
+impl<'a> Model for Lines<'a> {
+    ghost use Rattle.printing.specs.Page.{Page as Paper};
+    ghost use Rattle.printing.proofs.Pages.{Within};
+
+    ghost Value = { Paper };
+
+    ghost view = { λ l. l.page };
+
+    ghost invariant = { λ l. Within l.page };
 }
 
-// A CI, and below a menu. Each writes its own word: to hand it on takes longer than all that a span costs.
-fn put_ci(out: &mut [u8], at: usize, place: u64, octets: &[u8], span: u16) -> usize
-    requires { at ≤ length out.old }
-    ensures { result ≤ length out.new }
-{
-    let n = put_decimal(out, at, place);
-    let m = put_text(out, n, b"\tCI\t");
-    put_fields(out, m, octets, span)
-}
-
-fn put_menu(out: &mut [u8], at: usize, place: u64, octets: &[u8], span: u16) -> usize
-    requires { at ≤ length out.old }
-    ensures { result ≤ length out.new }
-{
-    let n = put_decimal(out, at, place);
-    let m = put_text(out, n, b"\tMENU\t");
-    put_fields(out, m, octets, span)
-}
-
-fn put_cj(out: &mut [u8], at: usize, place: u64) -> usize
-    requires { at ≤ length out.old }
-    ensures { result ≤ length out.new }
-{
-    let n = put_decimal(out, at, place);
-    put_text(out, n, b"\tCJ\t-\t-\n")
-}
-
-fn put_refusal(out: &mut [u8], at: usize, place: u64, number: u8) -> usize
-    requires { at ≤ length out.old }
-    ensures { result ≤ length out.new }
-{
-    let n = put_decimal(out, at, place);
-    let m = put_text(out, n, b"\tR");
-    let k = put_decimal(out, m, number as u64);
-    put_text(out, k, b"\t-\t-\n")
-}
-
-// The line of a report.
-fn put_line(out: &mut [u8], at: usize, place: u64, report: Heard, octets: &[u8]) -> usize
-    requires { at ≤ length out.old }
-    ensures { result ≤ length out.new }
-{
-    match report {
-        Heard::Nothing => at,
-        Heard::Ci(span) => put_ci(out, at, place, octets, span),
-        Heard::Menu(span, _) => put_menu(out, at, place, octets, span),
-        Heard::Cj => put_cj(out, at, place),
-        Heard::Refused(r) => put_refusal(out, at, place, refusals::refusal_number(r)),
-    }
-}
-
-// How many of the bytes taken were bits: all, but for one that was refused as none.
-fn bits_of(report: Heard, taken: usize) -> u64 {
-    match report {
-        Heard::Nothing => taken as u64,
-        Heard::Ci(_) => taken as u64,
-        Heard::Menu(_, _) => taken as u64,
-        Heard::Cj => taken as u64,
-        Heard::Refused(r) => {
-            if refusals::refusal_number(r) == 1 {
-                std::num::wrapping_sub_u64(taken as u64, 1)
-            } else {
-                taken as u64
-            }
+impl<'a> Lines<'a> {
+    // Octets with single spaces between, or - where there are none.
+    fn put_octets(&mut self, octets: &[u8]) {
+        let Some((first, rest)) = octets.split_first() else {
+            self.page.put_text(b"-");
+            return;
+        };
+        self.page.put_octet(*first);
+        for &octet in rest {
+            self.page.put_text(b" ");
+            self.page.put_octet(octet);
         }
     }
+
+    // A message: its word, octets and span.
+    fn put_message(&mut self, place: u64, word: &[u8], octets: &[u8], span: u16) {
+        self.page.put_decimal(place);
+        self.page.put_text(word);
+        self.put_octets(octets);
+        self.page.put_text(b"\t");
+        self.page.put_decimal(u64::from(span));
+        self.page.put_text(b"\n");
+    }
+
+    fn put_cj(&mut self, place: u64) {
+        self.page.put_decimal(place);
+        self.page.put_text(b"\tCJ\t-\t-\n");
+    }
+
+    fn put_refusal(&mut self, place: u64, r: Refusal) {
+        self.page.put_decimal(place);
+        self.page.put_text(b"\tR");
+        self.page
+            .put_decimal(u64::from(refusals::refusal_number(r)));
+        self.page.put_text(b"\t-\t-\n");
+    }
+
+    // The line of a report.
+    fn put_line(&mut self, place: u64, report: Result<Heard, Refusal>, octets: &[u8]) {
+        match report {
+            Ok(Heard::Nothing) => {}
+            Ok(Heard::Ci(span)) => self.put_message(place, b"\tCI\t", octets, span),
+            Ok(Heard::Menu(span, _)) => self.put_message(place, b"\tMENU\t", octets, span),
+            Ok(Heard::Cj) => self.put_cj(place),
+            Err(r) => self.put_refusal(place, r),
+        }
+    }
+
+    // Writes what is gathered.
+    fn write(&mut self) {
+        let at = self.page.at;
+        io::write_all(STDOUT, &self.page.out[..at]);
+        self.page.at = 0;
+    }
+
+    // Whether little room is left for another line.
+    fn is_full(&self) -> bool {
+        self.page.out.len() - self.page.at < LINE_ROOM
+    }
 }
 
-// The first octets of a message.
-fn put_message(out: &mut [u8], at: usize, place: u64, report: Heard, m: listening::Message) -> usize
-    requires { at ≤ length out.old }
-    ensures { result ≤ length out.new }
-{
-    let octets = m.octets;
-    let all: &[u8] = &octets;
-    let n = m.len as usize;
-    if n <= all.len() {
-        return put_line(out, at, place, report, &all[..n]);
+impl State {
+    // Hears bits up to the first that reports something, and gathers its line. Answers how many bits it took.
+    #[tactic(auto, using(crate::proofs::Held::held))]
+    fn hear(&mut self, bits: &[u8], lines: &mut Lines<'_>) -> usize
+        requires { 0 < length bits.now }
+        ensures some { 0 < result }
+        ensures most { result ≤ length bits.now }
+    {
+        let heard = listening::hear_many(self.rec, bits);
+        let place = self.bits.wrapping_add(heard.taken as u64 - 1);
+        self.rec = heard.rec;
+        let message = heard.rec.msg;
+        let octets = &message.octets[..message.len as usize];
+        lines.put_line(place, heard.report, octets);
+        if lines.is_full() {
+            lines.write();
+        }
+        // What was refused as no bit is not counted.
+        self.bits = match heard.report {
+            Err(Refusal::NotABit) => place,
+            _ => place.wrapping_add(1),
+        };
+        heard.taken
     }
-    at
-}
 
-// Writes what is gathered, once little room is left for another line.
-fn make_room(out: &[u8], n: usize) -> usize
-    requires { n ≤ length out.now }
-    ensures { result ≤ length out.now }
-{
-    if out.len() - n < LINE_ROOM {
-        io::write_all(STDOUT, &out[..n]);
-        return 0;
+    // Lists what the bits report.
+    fn list(&mut self, bits: &[u8], lines: &mut Lines<'_>) {
+        let mut rest = bits;
+        while !rest.is_empty() {
+            let taken = self.hear(rest, lines);
+            rest = &rest[taken..];
+        }
+        lines.write();
     }
-    n
 }
 
 // Characters to bits, in place: 0 and 1 become 0 and 1, line feeds go, any other byte becomes one that is no bit. Answers how
-// many there are.
+// many there are. By index, since what is kept is stored over what was read.
 fn to_bits(text: &mut [u8]) -> usize
     ensures { result ≤ length text.new }
 {
-    let mut n: usize = 0;
-    let mut i: usize = 0;
-    while i < text.len() {
+    let mut n = 0;
+    for i in 0..text.len() {
         let b = text[i];
-        i += 1;
         if b != b'\n' {
-            text[n] = std::num::wrapping_sub_u8(b, b'0');
+            text[n] = b.wrapping_sub(b'0');
             n += 1;
         }
     }
     n
 }
 
-// Lists what the bits report.
-fn list(s: State, bits: &[u8], out: &mut [u8]) -> State
-    requires { Fits s.rec }
-    ensures { Fits result.rec }
-{
-    let mut rec = s.rec;
-    let mut count = s.bits;
-    let mut at: usize = 0;
-    let mut n: usize = 0;
-    while at < bits.len() {
-        let ran = listening::hear_many(rec, &bits[at..]);
-        rec = ran.rec;
-        let taken = ran.taken;
-        let report = ran.report;
-        let before = std::num::wrapping_add_u64(count, taken as u64);
-        n = put_message(
-            out,
-            n,
-            std::num::wrapping_sub_u64(before, 1),
-            report,
-            rec.msg,
-        );
-        n = make_room(out, n);
-        count = std::num::wrapping_add_u64(count, bits_of(report, taken));
-        at += taken;
-    }
-    io::write_all(STDOUT, &out[..n]);
-    State {
-        rec: rec,
-        bits: count,
-        on: true,
-    }
-}
-
 // How many bytes came at once; none where nothing comes any more, or nothing can be read.
 fn read_once(mut input: Stdin, text: &mut [u8]) -> usize
     ensures { result ≤ length text.new }
 {
-    match input.read(text) {
-        Ok(n) => n,
-        Err(_) => 0,
-    }
+    input.read(text).unwrap_or(0)
 }
 
-// Reads once, and lists what came; where nothing comes any more, or nothing can be read, the listing is over.
-fn read_block(input: Stdin, s: State, text: &mut [u8], lines: &mut [u8]) -> State
-    requires { Fits s.rec }
-    ensures { Fits result.rec }
-{
-    let n = read_once(input, text);
-    if n == 0 {
-        let rec = s.rec;
-        return State {
-            rec: rec,
-            bits: s.bits,
-            on: false,
-        };
-    }
-    let k = to_bits(&mut text[..n]);
-    list(s, &text[..k], lines)
-}
-
-fn list_all(input: Stdin, text: &mut [u8], lines: &mut [u8]) {
-    let mut s = State {
+// Lists what comes, block by block, until nothing comes any more, or nothing can be read.
+fn list_all(input: Stdin, text: &mut [u8], lines: &mut Lines<'_>) {
+    let mut state = State {
         rec: listening::fresh_line(),
         bits: 0,
-        on: true,
     };
-    let mut turns = u64::MAX;
-    while 0 < turns {
-        turns -= 1;
-        s = read_block(input, s, text, lines);
-        if !s.on {
+    for _turn in 0..u64::MAX {
+        let n = read_once(input, text);
+        if n == 0 {
             return;
         }
+        let count = to_bits(&mut text[..n]);
+        state.list(&text[..count], lines);
     }
 }
 
 fn main(rt: HostRuntime) {
     io::write_all(STDOUT, b"bit\twhat\toctets\tspan\n");
     let mut text = io::large_buffer();
-    let mut lines = io::large_buffer();
+    let mut out = io::large_buffer();
+    let mut lines = Lines {
+        page: Page {
+            out: &mut out,
+            at: 0,
+        },
+    };
     list_all(rt.stdin(), &mut text, &mut lines);
 }
