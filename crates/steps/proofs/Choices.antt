@@ -10,8 +10,8 @@ use Rattle.laws.proofs.Computed.{both_left, both_right}
 use Rattle.cadence.specs.declared.Cadence.{Cadence}
 use Rattle.steps.specs.declared.Session.{Session}
 use Rattle.steps.specs.declared.Row.{Row}
-use Rattle.steps.specs.declared.RowFound.{RowFound}
-use Rattle.steps.specs.declared.RowFound.TheVariants.{At}
+use Rattle.steps.specs.declared.To.{To}
+use Rattle.std.specs.Prelude.{Option, Some}
 use Rattle.steps.specs.Table.{menu, over, going, left, cleared, not_offered, goes_on, agreed_jm, agreed_cm, tick, none_chosen, jm_refused, rows}
 use Rattle.steps.specs.Session.{between, is_mode, is_choice, early, in_range}
 use Rattle.steps.specs.Stepping.{same, entered, ended, go_on, StepOutcome, refused_with_11, holds, elapsed, applies, find_row, chosen_after, renewed, ended_as, row_taken, remembered, moved, refused_step, timed, stepped_in, stepped}
@@ -156,11 +156,11 @@ module _ (entry te end chosen how now : ℕ) (c : Cadence) where
   abbrev in_menu : Session
   in_menu = record { entry = entry; te = te; cadence = c; end = end; state = menu; chosen = chosen; ended = how }
 
-  first_row : (passed : ℕ) → find_row in_menu agreed_jm refused_with_11 passed rows ≡ At (record { 0 = over; 1 = not_offered })
+  first_row : (passed : ℕ) → find_row in_menu agreed_jm refused_with_11 passed rows ≡ Some (record { 0 = over; 1 = not_offered })
   unfolding find_row applies rows when both either
   first_row passed = rw (le-leb 0 passed (omega arith))
 
-  not_offered_lem : Apart (moved in_menu agreed_jm refused_with_11 now (At (record { 0 = over; 1 = not_offered })))
+  not_offered_lem : Apart (moved in_menu agreed_jm refused_with_11 now (Some (record { 0 = over; 1 = not_offered })))
   unfolding when
   not_offered_lem = refl
 
@@ -170,7 +170,7 @@ module _ (entry te end chosen how now : ℕ) (c : Cadence) where
       either_way Apart (in_range in_menu) _ _
       (λ _. either_way Apart _ (refused_step 7 in_menu) _ (λ _. refl)
       (λ _. either_way Apart _ (timed in_menu agreed_jm refused_with_11 now) (refused_step 9 in_menu)
-      (λ _. either_way Apart _ _ (refused_step 8 in_menu) (λ _. subst (λ (found : RowFound). Apart (moved in_menu agreed_jm refused_with_11 now found)) (sym (first_row (elapsed now entry))) not_offered_lem) (λ _. refl))
+      (λ _. either_way Apart _ _ (refused_step 8 in_menu) (λ _. subst (λ (found : Option To). Apart (moved in_menu agreed_jm refused_with_11 now found)) (sym (first_row (elapsed now entry))) not_offered_lem) (λ _. refl))
       (λ _. refl)))
       (λ _. refl)
 

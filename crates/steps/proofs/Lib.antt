@@ -1,5 +1,4 @@
 pub mod Known
-pub mod Clock
 pub mod Rows
 pub mod Ranges
 pub mod Refused

@@ -7,8 +7,8 @@ use Rattle.laws.specs.Tests.{every}
 use Rattle.laws.proofs.Logic.{either_way, both_true, clash}
 use Rattle.steps.specs.declared.Session.{Session}
 use Rattle.steps.specs.declared.Row.{Row}
-use Rattle.steps.specs.declared.RowFound.{RowFound}
-use Rattle.steps.specs.declared.RowFound.TheVariants.{At, Nothing}
+use Rattle.steps.specs.declared.To.{To}
+use Rattle.std.specs.Prelude.{Option, Some, None}
 use Rattle.steps.specs.Table.{over, goes_on, rows}
 use Rattle.steps.specs.Session.{in_range}
 use Rattle.steps.specs.Stepping.{Answered, same, entered, ended, go_on, refusal, StepOutcome, elapsed, owns, carries, applies, find_row, chosen_after, ended_as, answer_of, renewed, row_taken, remembered, moved, refused_step, timed, stepped_in, stepped}
@@ -35,11 +35,11 @@ pub data StepNumber : ℕ → Type 0 where
   bad_session : StepNumber 10
 
 module _ (s : Session) (event value now : ℕ) where
-  moved_fine : (found : RowFound) → number_answered (moved s event value now found).answer ≡ 0
-  moved_fine (At to) =
+  moved_fine : (found : Option To) → number_answered (moved s event value now found).answer ≡ 0
+  moved_fine (Some to) =
       let chosen = chosen_after event value s.chosen in
       either_way (λ (o : StepOutcome). number_answered o.answer ≡ 0) (eqb to.0 s.state) (remembered s event) (row_taken (renewed s event value now) to) (λ _. refl) (λ _. answer_fine to.0 (ended_as to.1 chosen) chosen)
-  moved_fine Nothing = refl
+  moved_fine None = refl
 
   abbrev Kept : StepOutcome → Type 0
   Kept o = (n : ℕ) → o.answer ≡ refusal n → (o.session ≡ s) × StepNumber n
@@ -60,12 +60,12 @@ module _ (s : Session) (event value now : ℕ) where
       (λ _. kept_by 10 bad_session)
 
   -- no row is found where none applies
-  none_found : (passed : ℕ) (rs : List Row) → every (λ r. not (applies s event value passed r)) rs ≡ true → find_row s event value passed rs ≡ Nothing
+  none_found : (passed : ℕ) (rs : List Row) → every (λ r. not (applies s event value passed r)) rs ≡ true → find_row s event value passed rs ≡ None
   unfolding find_row every
   none_found passed [] none = refl
   none_found passed (r ∷ rs) none =
       let parts = both_true _ _ none in
-      either_way (λ (found : RowFound). found ≡ Nothing) (applies s event value passed r) (At r.to) (find_row s event value passed rs)
+      either_way (λ (found : Option To). found ≡ None) (applies s event value passed r) (Some r.to) (find_row s event value passed rs)
       (λ applied. clash (sym (sym (ap not applied) ∙ parts.0)))
       (λ _. none_found passed rs parts.1)
 

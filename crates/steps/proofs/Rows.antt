@@ -8,8 +8,7 @@ use Rattle.laws.proofs.Computed.{both_left, both_right, below}
 use Rattle.steps.specs.declared.Session.{Session}
 use Rattle.steps.specs.declared.Row.{Row}
 use Rattle.steps.specs.declared.To.{To}
-use Rattle.steps.specs.declared.RowFound.{RowFound}
-use Rattle.steps.specs.declared.RowFound.TheVariants.{At, Nothing}
+use Rattle.std.specs.Prelude.{Option, Some, None}
 use Rattle.steps.specs.Table.{rows}
 use Rattle.steps.specs.Session.{in_range}
 use Rattle.steps.specs.Inner.{what_holds, find_held, or_else}
@@ -51,7 +50,7 @@ all_of_nine = tt
 
 -- row i is found where its test says that it applies, and where not, the first behind it
 module _ (state event passed : ℕ) (held : List Bool) (table : List Row) (is : table ≡ rows) (i : ℕ) (d : Row) (h : i < 23) (test : Bool) (says : test ≡ row_fits (get_or table i d) state event passed (get_or held (get_or table i d).condition false)) where
-  pub found_at : test ≡ true → find_held state event passed held (drop i rows) ≡ At (get_or table i d).to
+  pub found_at : test ≡ true → find_held state event passed held (drop i rows) ≡ Some (get_or table i d).to
   unfolding find_held when
   found_at a = rw (row_at i d h, ← is, ← says, a) refl
 
@@ -59,19 +58,19 @@ module _ (state event passed : ℕ) (held : List Bool) (table : List Row) (is : 
   unfolding find_held when
   found_behind a = rw (row_at i d h, ← is, ← says, a) refl
 
-or_nothing : (found : RowFound) → or_else found Nothing ≡ found
-or_nothing (At to) = refl
-or_nothing Nothing = refl
+or_nothing : (found : Option To) → or_else found None ≡ found
+or_nothing (Some to) = refl
+or_nothing None = refl
 
 -- what is found in the first part of the table, or else in the second, is the first row that applies
-module _ (s : Session) (event value passed : ℕ) (held : List Bool) (is : held ≡ what_holds s value passed) (early : RowFound) (first : or_else early (find_held s.state event passed held (drop 12 rows)) ≡ find_held s.state event passed held rows) where
+module _ (s : Session) (event value passed : ℕ) (held : List Bool) (is : held ≡ what_holds s value passed) (early : Option To) (first : or_else early (find_held s.state event passed held (drop 12 rows)) ≡ find_held s.state event passed held rows) where
   in_parts : or_else early (find_held s.state event passed held (drop 12 rows)) ≡ find_row s event value passed rows
   in_parts = first ∙ rw is (held_finds s event value passed rows all_of_nine)
 
-  pub found_early : (to : To) → early ≡ At to → At to ≡ find_row s event value passed rows
+  pub found_early : (to : To) → early ≡ Some to → Some to ≡ find_row s event value passed rows
   found_early to e = rw e at in_parts
 
-  pub found_late : early ≡ Nothing → (late : RowFound) → or_else late (find_held s.state event passed held (drop 23 rows)) ≡ find_held s.state event passed held (drop 12 rows) → late ≡ find_row s event value passed rows
+  pub found_late : early ≡ None → (late : Option To) → or_else late (find_held s.state event passed held (drop 23 rows)) ≡ find_held s.state event passed held (drop 12 rows) → late ≡ find_row s event value passed rows
   unfolding rows find_held
   found_late e late second = sym (or_nothing late) ∙ second ∙ (rw e at in_parts)
 
@@ -92,11 +91,11 @@ module _ (s : Session) (event value passed : ℕ) where
       record { state = eqb-true _ _ tests.0; on = eqb-true _ _ rest.0; waited = asked.0; holding = asked.1 }
 
   -- what holds of every row that applies, where each may use a test computed over the table, and of no row, holds of the search
-  found_case : (P : RowFound → Type 0) (p : Row → Bool) (rs : List Row) → T (every p rs) → ((r : Row) → Applies s event value passed r → T (p r) → P (At r.to)) → P Nothing → P (find_row s event value passed rs)
+  found_case : (P : Option To → Type 0) (p : Row → Bool) (rs : List Row) → T (every p rs) → ((r : Row) → Applies s event value passed r → T (p r) → P (Some r.to)) → P None → P (find_row s event value passed rs)
   unfolding find_row every
   found_case P p [] t at none = none
   found_case P p (r ∷ rs) t at none =
-      either_way P (applies s event value passed r) (At r.to) (find_row s event value passed rs)
+      either_way P (applies s event value passed r) (Some r.to) (find_row s event value passed rs)
       (λ a. at r (applied r a) (both_left (p r) (every p rs) t))
       (λ _. found_case P p rs (both_right (p r) (every p rs) t) at none)
 
@@ -122,7 +121,7 @@ module _ (s : Session) (event value now : ℕ) where
       (λ inside. either_way P _ (refused_step 7 s) _ (λ _. refused 7 (lit≤ tt) (lit≤ tt))
       (λ _. either_way P _ (timed s event value now) (refused_step 9 s)
       (λ tests. either_way P _ _ (refused_step 8 s)
-      (λ _. found_case s event value (elapsed now s.entry) (λ (found : RowFound). P (moved s event value now found)) p rows t
+      (λ _. found_case s event value (elapsed now s.entry) (λ (found : Option To). P (moved s event value now found)) p rows t
       (λ r row tested.
       let taking : Taken r = record { inside = inside; own = (both_true _ _ tests).0; fit = (both_true _ _ tests).1; row = row } in
       either_way P (eqb r.to.0 s.state) (remembered s event) (row_taken (renewed s event value now) r.to) (remembers r taking tested) (at r taking tested)) none)

@@ -10,8 +10,8 @@ use Rattle.laws.proofs.Computed.{both_left, both_right, below}
 use Rattle.cadence.specs.Giving.{cadence_fits, is_none}
 use Rattle.steps.specs.declared.Session.{Session}
 use Rattle.steps.specs.declared.Row.{Row}
-use Rattle.steps.specs.declared.RowFound.{RowFound}
-use Rattle.steps.specs.declared.RowFound.TheVariants.{At}
+use Rattle.steps.specs.declared.To.{To}
+use Rattle.std.specs.Prelude.{Option, Some}
 use Rattle.steps.specs.Table.{caller_still, calling, quiet, over, tick, always, te_elapsed, behind_ansam, behind_ans, rows}
 use Rattle.steps.specs.Session.{between, is_te, state_fits, end_fits, cadence_of, in_range, caller}
 use Rattle.steps.specs.Stepping.{StepOutcome, elapsed, is_sent, holds, applies, find_row, renewed, row_taken, remembered, moved, timed, stepped_in, stepped}
@@ -72,7 +72,7 @@ unfolding when
 holds_least r s value passed t = least_by (eqb r.condition te_elapsed) r.condition r.least s.te passed _ t (λ a. rw (eqb-true r.condition always a))
 
 -- one row of the search for a tick's row, by its tests: of the state, of the tick, of the time
-tick_by : (a b h k : Bool) (P : RowFound → Type 0) (x y : RowFound) (m n passed : ℕ) → (a ≡ true → b ≡ true → h ≡ leb m passed) → T (either (both a b) k) → leb (when (both a b) m n) passed ≡ true → (a ≡ true → b ≡ true → h ≡ true → P x) → (T k → leb n passed ≡ true → P y) → P (when (both a (both b h)) x y)
+tick_by : (a b h k : Bool) (P : Option To → Type 0) (x y : Option To) (m n passed : ℕ) → (a ≡ true → b ≡ true → h ≡ leb m passed) → T (either (both a b) k) → leb (when (both a b) m n) passed ≡ true → (a ≡ true → b ≡ true → h ≡ true → P x) → (T k → leb n passed ≡ true → P y) → P (when (both a (both b h)) x y)
 unfolding when both either
 tick_by true true true k P x y m n passed e t l at on = at refl refl refl
 tick_by true true false k P x y m n passed e t l at on = clash (sym l ∙ sym (e refl refl))
@@ -81,12 +81,12 @@ tick_by false b h k P x y m n passed e t l at on = on t l
 
 module _ (s : Session) (value passed : ℕ) (elsewhere : eqb s.state calling ≡ false) where
   -- outside of calling, once the limit has passed, the row for a tick is found
-  tick_case : (P : RowFound → Type 0) (rs : List Row) → T (every row_ticks rs) → T (has_tick s.state rs) → leb (limit_in rs s) passed ≡ true → ((r : Row) → Applies s tick value passed r → T (row_ticks r) → P (At r.to)) → P (find_row s tick value passed rs)
+  tick_case : (P : Option To → Type 0) (rs : List Row) → T (every row_ticks rs) → T (has_tick s.state rs) → leb (limit_in rs s) passed ≡ true → ((r : Row) → Applies s tick value passed r → T (row_ticks r) → P (Some r.to)) → P (find_row s tick value passed rs)
   unfolding find_row every has_tick limit_in applies
   tick_case P [] t has l at = absurd has
   tick_case P (r ∷ rs) t has l at =
       let row = both_left (row_ticks r) (every row_ticks rs) t in
-      tick_by (eqb r.state s.state) (eqb r.event tick) (both (leb r.least passed) (holds r.condition s value passed)) (has_tick s.state rs) P (At r.to) (find_row s tick value passed rs) (least r s) (limit_in rs s) passed
+      tick_by (eqb r.state s.state) (eqb r.event tick) (both (leb r.least passed) (holds r.condition s value passed)) (has_tick s.state rs) P (Some r.to) (find_row s tick value passed rs) (least r s) (limit_in rs s) passed
       (λ a b. holds_least r s value passed (left_if (eqb r.state calling) _ (asks_time r) (taken_if (eqb r.event tick) _ _ (both_left (timely r) _ row) b) (ap (λ (n : ℕ). eqb n calling) (eqb-true r.state s.state a) ∙ elsewhere))) has l
       (λ a b h. let asked = both_true _ _ h in at r (record { state = eqb-true _ _ a; on = eqb-true _ _ b; waited = asked.0; holding = asked.1 }) row)
       (λ k n. tick_case P rs (both_right (row_ticks r) (every row_ticks rs) t) k n at)
@@ -115,7 +115,7 @@ module _ (s : Session) (value now : ℕ) (h : in_range s ≡ true) where
       let going : s.state ≡ over → ⊥ = λ o. clash (sym p ∙ ap passes o) in
       let elsewhere = ne_eqb s.state calling (λ c. clash (sym p ∙ ap passes c)) in
       let has = taken_if (both (ltb 0 s.state) (passes s.state)) (has_tick s.state rows) true (below passing 11 states_tick s.state small.1) (simp (lt-ltb _ _ small.0, p)) in
-      tick_case s value (elapsed now s.entry) elsewhere (λ (found : RowFound). (moved s tick value now found).session.state ≡ s.state → ⊥) rows rows_tick has (le-leb _ _ l)
+      tick_case s value (elapsed now s.entry) elsewhere (λ (found : Option To). (moved s tick value now found).session.state ≡ s.state → ⊥) rows rows_tick has (le-leb _ _ l)
       (λ r a t.
       let apart = is_not (eqb r.to.0 r.state) (both_left (not (eqb r.to.0 r.state)) (when (eqb r.to.0 calling) (eqb r.state caller_still) true) (taken_if (eqb r.event tick) _ true (both_right (te_in_quiet r) (leaves r) (both_right (timely r) _ t)) (eq-eqb _ _ a.on))) in
       let moves : eqb r.to.0 s.state ≡ false = ap (eqb r.to.0) (sym a.state) ∙ apart in

@@ -1,10 +1,9 @@
 -- What the private functions of this crate promise each other. No public promise names it.
-use Rattle.std.specs.Prelude.{ℕ, Bool, false, List, [], ◌∷◌, slice_index_or}
+use Rattle.std.specs.Prelude.{ℕ, Bool, false, Option, Some, None, List, [], ◌∷◌, slice_index_or}
 use Rattle.laws.specs.Logic.{when}
 use Rattle.steps.specs.declared.Session.{Session}
 use Rattle.steps.specs.declared.Row.{Row}
-use Rattle.steps.specs.declared.RowFound.{RowFound}
-use Rattle.steps.specs.declared.RowFound.TheVariants.{At, Nothing}
+use Rattle.steps.specs.declared.To.{To}
 use Rattle.steps.specs.Table.{always, te_elapsed, none_chosen, jm_refused, chosen_item, nothing_left, no_tone, behind_ansam, behind_ans}
 use Rattle.steps.specs.Stepping.{holds, row_fits}
 
@@ -23,11 +22,11 @@ what_holds s value passed =
     ∷ []
 
 -- the first row that applies, by what each condition comes to
-unfoldable pub find_held : ℕ → ℕ → ℕ → List Bool → List Row → RowFound
-find_held state event passed held [] = Nothing
-find_held state event passed held (r ∷ rs) = when (row_fits r state event passed (slice_index_or held r.condition false)) (At r.to) (find_held state event passed held rs)
+unfoldable pub find_held : ℕ → ℕ → ℕ → List Bool → List Row → Option To
+find_held state event passed held [] = None
+find_held state event passed held (r ∷ rs) = when (row_fits r state event passed (slice_index_or held r.condition false)) (Some r.to) (find_held state event passed held rs)
 
 -- what is found in one part of the table, or else in another
-abbrev pub or_else : RowFound → RowFound → RowFound
-or_else (At to) behind = At to
-or_else Nothing behind = behind
+abbrev pub or_else : Option To → Option To → Option To
+or_else (Some to) behind = Some to
+or_else None behind = behind

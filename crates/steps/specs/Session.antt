@@ -1,13 +1,12 @@
 -- docs/RANGES.md: what a session may hold; and how it starts.
-use Rattle.std.specs.Prelude.{ℕ, Bool, true, not, ◌==◌, nat_le, nat_lt}
+use Rattle.std.specs.Prelude.{Result, Ok, Err, ℕ, Bool, true, not, ◌==◌, nat_le, nat_lt}
 use Rattle.laws.specs.Logic.{when, both, either}
+use Rattle.refusals.specs.declared.Refusal.{Refusal}
 use Rattle.refusals.specs.Refusals.{number}
 use Rattle.cadence.specs.declared.Cadence.{Cadence}
 use Rattle.cadence.specs.Cadence.{is_function, is_cadence}
 use Rattle.cadence.specs.Giving.{cadence_fits, no_cadence, is_none, begun}
 use Rattle.steps.specs.declared.Session.{Session}
-use Rattle.steps.specs.declared.Started.{Started}
-use Rattle.steps.specs.declared.Started.TheVariants.{Ready, Refused}
 use Rattle.steps.specs.Table.{caller_still, closing, pause, answerer_still, answering, joint, over, going, left, not_offered, goes_on}
 
 -- from low to high, both counted
@@ -98,9 +97,9 @@ pub data Start : Type 0 where
   ready : Session → Start
   refusal : ℕ → Start
 
-abbrev pub says_started : Started → Start
-says_started (Ready s) = ready s
-says_started (Refused r) = refusal (number r)
+abbrev pub says_started : Result Session Refusal → Start
+says_started (Ok s) = ready s
+says_started (Err r) = refusal (number r)
 
 -- "Te out of range" is refused with 10, and so is a function that is none; document 02, Req 04: "16 cadence outside these numbers, at the start, after 10"
 abbrev pub started_caller : ℕ → ℕ → ℕ → ℕ → ℕ → Start

@@ -1,16 +1,15 @@
 -- Document 01, 'Steps': what an event changes, and what it is answered.
-use Rattle.std.specs.Prelude.{◌≡◌, ℕ, ◌+◌, ◌-◌, ◌%◌, ◌^◌, Bool, true, List, [], ◌∷◌, ◌==◌, nat_le, nat_lt}
+use Rattle.std.specs.Prelude.{◌≡◌, Option, Some, None, Result, Ok, Err, ℕ, ◌+◌, ◌-◌, ◌%◌, ◌^◌, Bool, true, List, [], ◌∷◌, ◌==◌, nat_le, nat_lt}
 use Rattle.laws.specs.Logic.{when, both, either}
+use Rattle.refusals.specs.declared.Refusal.{Refusal}
 use Rattle.refusals.specs.Refusals.{number}
 use Rattle.cadence.specs.declared.Cadence.{Cadence}
 use Rattle.cadence.specs.Giving.{left, remembering}
 use Rattle.steps.specs.declared.Session.{Session}
 use Rattle.steps.specs.declared.Row.{Row}
 use Rattle.steps.specs.declared.To.{To}
-use Rattle.steps.specs.declared.RowFound.{RowFound}
-use Rattle.steps.specs.declared.RowFound.TheVariants.{At, Nothing}
 use Rattle.steps.specs.declared.Answer.{Answer}
-use Rattle.steps.specs.declared.Answer.TheVariants.{Same, Entered, Ended, GoOn, Refused}
+use Rattle.steps.specs.declared.Answer.TheVariants.{Same, Entered, Ended, GoOn}
 use Rattle.steps.specs.declared.Stepped.{Stepped}
 use Rattle.steps.specs.Table as table
 use Rattle.steps.specs.Table.{over, goes_on, ansam, ans, agreed_jm, cj_sent, agreed_cm, sig_c, cj, tick, te_elapsed, none_chosen, jm_refused, chosen_item, nothing_left, no_tone, behind_ansam, behind_ans, rows}
@@ -25,12 +24,16 @@ pub data Answered : Type 0 where
   refusal : ℕ → Answered
 
 -- what an answer says on paper
-abbrev pub says_answer : Answer → Answered
-says_answer Same = same
-says_answer (Entered state) = entered state
-says_answer (Ended how) = ended how
-says_answer (GoOn choice) = go_on choice
-says_answer (Refused r) = refusal (number r)
+abbrev pub says_answered : Answer → Answered
+says_answered Same = same
+says_answered (Entered state) = entered state
+says_answered (Ended how) = ended how
+says_answered (GoOn choice) = go_on choice
+
+-- .. or a refusal
+abbrev pub says_answer : Result Answer Refusal → Answered
+says_answer (Ok a) = says_answered a
+says_answer (Err r) = refusal (number r)
 
 -- what an event leaves: its answer, and the session
 pub record StepOutcome : Type 0 where
@@ -88,9 +91,9 @@ unfoldable pub applies : Session → ℕ → ℕ → ℕ → Row → Bool
 applies s event value passed r = row_fits r s.state event passed (holds r.condition s value passed)
 
 -- the first row that applies
-unfoldable pub find_row : Session → ℕ → ℕ → ℕ → List Row → RowFound
-find_row s event value passed [] = Nothing
-find_row s event value passed (r ∷ rs) = when (applies s event value passed r) (At r.to) (find_row s event value passed rs)
+unfoldable pub find_row : Session → ℕ → ℕ → ℕ → List Row → Option To
+find_row s event value passed [] = None
+find_row s event value passed (r ∷ rs) = when (applies s event value passed r) (Some r.to) (find_row s event value passed rs)
 
 -- "Agreed CM and agreed JM carry the choice"; one that is refused with 11 brings none
 abbrev pub chosen_after : ℕ → ℕ → ℕ → ℕ
@@ -130,9 +133,9 @@ abbrev pub remembered : Session → ℕ → StepOutcome
 remembered s event = record { answer = same; session = with_cadence s (remembering s.cadence event) }
 
 -- a row that leads to its own state remembers its event; "Any other pair of a state and its own end's event changes nothing and is answered 'same'."
-abbrev pub moved : Session → ℕ → ℕ → ℕ → RowFound → StepOutcome
-moved s event value now (At to) = when (to.0 == s.state) (remembered s event) (row_taken (renewed s event value now) to)
-moved s event value now Nothing = record { answer = same; session = s }
+abbrev pub moved : Session → ℕ → ℕ → ℕ → Option To → StepOutcome
+moved s event value now (Some to) = when (to.0 == s.state) (remembered s event) (row_taken (renewed s event value now) to)
+moved s event value now None = record { answer = same; session = s }
 
 -- "A refusal carries its number alone. Buffers and the session keep their values."
 abbrev pub refused_step : ℕ → Session → StepOutcome

@@ -10,7 +10,7 @@ ghost use Rattle.cadence.specs.Cadence.{is_function};
 ghost use Rattle.steps.specs.Table.{rows};
 ghost use Rattle.steps.specs.Session.{between, is_item, is_choice, is_te, end_fits, of_end, state_fits, early, choice_fits, ended_fits, beginning, cadence_of, in_range, caller_from, answerer_from, default_te, says_started, started_caller};
 ghost use Rattle.steps.specs.Inner.{what_holds, find_held, or_else};
-ghost use Rattle.steps.specs.Stepping.{says_answer, Steps, elapsed, owns, carries, is_sent, row_fits, find_row, chosen_after, renewed, ended_as, answer_of, entering, row_taken, with_cadence, remembered, moved, refused_step, timed, stepped_in, stepped};
+ghost use Rattle.steps.specs.Stepping.{says_answered, Steps, elapsed, owns, carries, is_sent, row_fits, find_row, chosen_after, renewed, ended_as, answer_of, entering, row_taken, with_cadence, remembered, moved, refused_step, timed, stepped_in, stepped};
 ghost use Rattle.steps.specs.Drawing.{Draws, drawn};
 
 use cadence::Cadence;
@@ -322,28 +322,20 @@ pub const DEFAULT_TE: u32 = 1000;
 // Half the range of the clock: a time that is as far away lies before.
 const HALF_RANGE: u32 = 2147483648;
 
-// What looking a row up finds.
-#[derive(Clone, Copy)]
-enum RowFound {
-    At(To),
-    Nothing,
-}
-
-// What an event is answered: nothing changed, a state was entered, the session ended in this way or goes on with this choice, or a
-// refusal.
+// What an event that is not refused is answered: nothing changed, a state was entered, or the session ended in this way or goes on
+// with this choice.
 #[derive(Clone, Copy)]
 pub enum Answer {
     Same,
     Entered(u8),
     Ended(u8),
     GoOn(u8),
-    Refused(Refusal),
 }
 
 #[derive(Clone, Copy)]
 pub struct Stepped {
     pub session: Session,
-    pub answer: Answer,
+    pub answer: Result<Answer, Refusal>,
 }
 
 // What asking for bits leaves: the session, and how many bits came.
@@ -353,17 +345,10 @@ pub struct Drawn {
     pub answer: Wrote,
 }
 
-// A caller's start.
-#[derive(Clone, Copy)]
-pub enum Started {
-    Ready(Session),
-    Refused(Refusal),
-}
-
 fn is_between(low: u8, high: u8, n: u8) -> bool
     ensures { result ≡ between low high n }
 {
-    low <= n && n <= high
+    (low..=high).contains(&n)
 }
 
 fn is_item(value: u8) -> bool
@@ -383,7 +368,7 @@ fn is_choice(value: u8) -> bool
 pub fn is_te(te: u32) -> bool
     ensures { result ≡ is_te te }
 {
-    LEAST_TE <= te && te <= MOST_TE
+    (LEAST_TE..=MOST_TE).contains(&te)
 }
 
 // Which end this is, and its Te; the answerer has none.
@@ -478,8 +463,8 @@ fn caller_from(start: u32, te: u32, cadence: Cadence) -> Session
 {
     Session {
         entry: start,
-        te: te,
-        cadence: cadence,
+        te,
+        cadence,
         end: CALLER,
         state: CALLER_STILL,
         chosen: NONE,
@@ -495,20 +480,20 @@ fn may_call(te: u32, function: u8) -> bool
 }
 
 // A caller's start with a given Te: the function that CI names, its sequences on, and its bit times off.
-pub fn start_caller(start: u32, te: u32, function: u8, on: u8, off: u16) -> Started
+pub fn start_caller(start: u32, te: u32, function: u8, on: u8, off: u16) -> Result<Session, Refusal>
     ensures { says_started result ≡ started_caller start te function on off }
 {
     if may_call(te, function) {
         if cadence::is_cadence(on, off) {
-            return Started::Ready(caller_from(start, te, cadence::begin(function, on, off)));
+            return Ok(caller_from(start, te, cadence::begin(function, on, off)));
         }
-        return Started::Refused(Refusal::BadCadence);
+        return Err(Refusal::BadCadence);
     }
-    Started::Refused(Refusal::BadRecord)
+    Err(Refusal::BadRecord)
 }
 
 // A caller's start without a value for Te.
-pub fn start_caller_default(start: u32, function: u8, on: u8, off: u16) -> Started
+pub fn start_caller_default(start: u32, function: u8, on: u8, off: u16) -> Result<Session, Refusal>
     ensures { says_started result ≡ started_caller start default_te function on off }
 {
     start_caller(start, DEFAULT_TE, function, on, off)
@@ -532,7 +517,7 @@ pub fn start_answerer(start: u32) -> Session
 fn since(now: u32, entry: u32) -> u32
     ensures { result ≡ elapsed now entry }
 {
-    std::num::wrapping_sub_u32(now, entry)
+    now.wrapping_sub(entry)
 }
 
 fn is_own(end: u8, event: u8) -> bool
@@ -604,35 +589,31 @@ fn find_between(
     table: [Row; 23],
     from: usize,
     end: usize,
-) -> RowFound
+) -> Option<To>
     requires table_value { table ≡ rows }
     requires from_le_end { from ≤ end }
     requires end_bound { end ≤ 23 }
     ensures { or_else result (find_held state event passed holding (drop end rows)) ≡ find_held state event passed holding (drop from rows) }
 {
-    let mut i = from;
-    while i < end {
+    for i in from..end {
         let row = table[i];
         if row_applies(row, state, event, passed, holding[row.condition as usize]) {
-            let to = row.to;
-            return RowFound::At(to);
+            return Some(row.to);
         }
-        i += 1;
     }
-    RowFound::Nothing
+    None
 }
 
 // The table is looked at in two parts, since the compiler unrolls a search of 21 rows at the most (docs/SPEED.md).
-fn find_row(session: Session, event: u8, value: u8, passed: u32) -> RowFound
+fn find_row(session: Session, event: u8, value: u8, passed: u32) -> Option<To>
     ensures { result ≡ find_row session event value passed rows }
 {
     let table = ROWS;
     let holding = what_holds(session, value, passed);
-    let early = find_between(session.state, event, passed, holding, table, 0, 12);
-    let RowFound::At(to) = early else {
-        return find_between(session.state, event, passed, holding, table, 12, 23);
-    };
-    RowFound::At(to)
+    match find_between(session.state, event, passed, holding, table, 0, 12) {
+        Some(to) => Some(to),
+        None => find_between(session.state, event, passed, holding, table, 12, 23),
+    }
 }
 
 // The choice once an event is taken: an agreed menu brings one.
@@ -655,15 +636,10 @@ fn choice_after(event: u8, value: u8, chosen: u8) -> u8
 fn renew(session: Session, event: u8, value: u8, now: u32) -> Session
     ensures { result ≡ renewed session event value now }
 {
-    let cadence = session.cadence;
     Session {
         entry: now,
-        te: session.te,
-        cadence: cadence,
-        end: session.end,
-        state: session.state,
         chosen: choice_after(event, value, session.chosen),
-        ended: session.ended,
+        ..session
     }
 }
 
@@ -681,7 +657,7 @@ fn ending_of(ended: u8, chosen: u8) -> u8
 }
 
 fn answer_of(state: u8, ended: u8, chosen: u8) -> Answer
-    ensures { says_answer result ≡ answer_of state ended chosen }
+    ensures { says_answered result ≡ answer_of state ended chosen }
 {
     if state == OVER {
         if ended == GO_ON {
@@ -695,18 +671,13 @@ fn answer_of(state: u8, ended: u8, chosen: u8) -> Answer
 fn enter(session: Session, state: u8, ended: u8) -> Stepped
     ensures { Steps (entering session state ended) result }
 {
-    let cadence = session.cadence;
     Stepped {
         session: Session {
-            entry: session.entry,
-            te: session.te,
-            cadence: cadence,
-            end: session.end,
-            state: state,
-            chosen: session.chosen,
-            ended: ended,
+            state,
+            ended,
+            ..session
         },
-        answer: answer_of(state, ended, session.chosen),
+        answer: Ok(answer_of(state, ended, session.chosen)),
     }
 }
 
@@ -716,18 +687,10 @@ fn take_row(session: Session, to: To) -> Stepped
     enter(session, to.0, ending_of(to.1, session.chosen))
 }
 
-fn with_cadence(session: Session, c: Cadence) -> Session
-    ensures { result ≡ with_cadence session c }
+fn with_cadence(session: Session, cadence: Cadence) -> Session
+    ensures { result ≡ with_cadence session cadence }
 {
-    Session {
-        entry: session.entry,
-        te: session.te,
-        cadence: c,
-        end: session.end,
-        state: session.state,
-        chosen: session.chosen,
-        ended: session.ended,
-    }
+    Session { cadence, ..session }
 }
 
 // A row that leads to its own state: the tone is remembered, and all else stays.
@@ -736,7 +699,7 @@ fn remember(session: Session, event: u8) -> Stepped
 {
     Stepped {
         session: with_cadence(session, cadence::remember(session.cadence, event)),
-        answer: Answer::Same,
+        answer: Ok(Answer::Same),
     }
 }
 
@@ -744,11 +707,10 @@ fn remember(session: Session, event: u8) -> Stepped
 fn step_on(session: Session, event: u8, value: u8, now: u32, passed: u32) -> Stepped
     ensures { Steps (moved session event value now (find_row session event value passed rows)) result }
 {
-    let found = find_row(session, event, value, passed);
-    let RowFound::At(to) = found else {
+    let Some(to) = find_row(session, event, value, passed) else {
         return Stepped {
-            session: session,
-            answer: Answer::Same,
+            session,
+            answer: Ok(Answer::Same),
         };
     };
     if to.0 == session.state {
@@ -761,8 +723,8 @@ fn refuse_step(session: Session, refusal: Refusal) -> Stepped
     ensures { Steps (refused_step (number refusal) session) result }
 {
     Stepped {
-        session: session,
-        answer: Answer::Refused(refusal),
+        session,
+        answer: Err(refusal),
     }
 }
 
@@ -808,20 +770,18 @@ pub fn draw(session: Session, out: &mut [u8]) -> Drawn
     if in_range(session) {
         if session.state == CALLING {
             let given = cadence::give(session.cadence, out);
-            let next = given.cadence;
-            let answer = given.answer;
             return Drawn {
-                session: with_cadence(session, next),
-                answer: answer,
+                session: with_cadence(session, given.cadence),
+                answer: given.answer,
             };
         }
         return Drawn {
-            session: session,
+            session,
             answer: Wrote::Count(0),
         };
     }
     Drawn {
-        session: session,
+        session,
         answer: Wrote::Refused(Refusal::BadRecord),
     }
 }

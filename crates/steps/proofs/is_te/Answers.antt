@@ -1,13 +1,8 @@
--- `steps::is_te` meets its contract: as `is_between`, at the width of a time.
+-- `steps::is_te` meets its contract: the range of `is_te`.
 -- Assumes nothing.
-use Rattle.laws.proofs.Cases.{cases}
-use Rattle.laws.specs.Logic.{both}
+use Rattle.std.proofs.Common.{◌∙◌}
+use Rattle.cadence.proofs.Within.{contained}
 use Rattle.steps.proofs.is_te.Goals as goal
 
-pub returns-then-te-ge-LEAST_TE : goal.returns-then-te-ge-LEAST_TE
-unfolding both
-returns-then-te-ge-LEAST_TE c = search cases
-
-pub returns-else-te-ge-LEAST_TE : goal.returns-else-te-ge-LEAST_TE
-unfolding both
-returns-else-te-ge-LEAST_TE c = search cases
+pub returns : goal.returns
+returns c = c.contains.ensures.value ∙ contained _ _ c.args.te _ c.new.ensures.start c.new.ensures.end c.new.ensures.exhausted
