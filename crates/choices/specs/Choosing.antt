@@ -1,6 +1,7 @@
 -- Document 01, 'Menus we make': the choice from CM and JM.
-use Rattle.std.specs.Prelude.{ℕ, zero, suc, ◌+◌, Bool, List, ltb, eqb}
+use Rattle.std.specs.Prelude.{ℕ, zero, suc, ◌+◌, Bool, List, Result, Ok, Err, ltb, eqb}
 use Rattle.laws.specs.Logic.{when, both}
+use Rattle.refusals.specs.declared.Refusal.{Refusal}
 use Rattle.refusals.specs.declared.Refusal.TheVariants.{NotOffered}
 use Rattle.refusals.specs.Refusals.{number}
 use Rattle.menus.specs.declared.Offer.{Offer}
@@ -9,7 +10,7 @@ use Rattle.menus.specs.Offer.{Read, menu_read}
 use Rattle.menus.specs.Offer as read
 use Rattle.menus.specs.Pcm.{paired}
 use Rattle.choices.specs.declared.Choice.{Choice}
-use Rattle.choices.specs.declared.Choice.TheVariants.{Nothing, Mode, Pcm, Refused}
+use Rattle.choices.specs.declared.Choice.TheVariants.{Nothing, Mode, Pcm}
 
 -- what a choice is: none, an item, PCM options, or a refusal's number
 pub data Chosen : Type 0 where
@@ -19,11 +20,11 @@ pub data Chosen : Type 0 where
   refusal : ℕ → Chosen
 
 -- what an answer says on paper
-abbrev pub says_choice : Choice → Chosen
-says_choice Nothing = none
-says_choice (Mode i) = item i.0
-says_choice (Pcm options) = pcm options
-says_choice (Refused r) = refusal (number r)
+abbrev pub says_choice : Result Choice Refusal → Chosen
+says_choice (Ok Nothing) = none
+says_choice (Ok (Mode i)) = item i.0
+says_choice (Ok (Pcm options)) = pcm options
+says_choice (Err r) = refusal (number r)
 
 -- the lowest of n items from i on; 0 where there is none, since item 0 is not looked at
 unfoldable pub lowest_from : ℕ → ℕ → ℕ → ℕ

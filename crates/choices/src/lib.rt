@@ -2,87 +2,72 @@
 #![tactic(auto)]
 
 ghost use Rattle.std.specs.Prelude.{◌≡◌};
-ghost use Rattle.choices.specs.Choosing.{lowest, says_choice, pcm_choice, item_choice, chosen_from, choice_for, choice_of};
+ghost use Rattle.choices.specs.Choosing.{lowest, says_choice, pcm_choice, item_choice, chosen_from, choice_of};
+ghost use Rattle.choices.specs.Inner.{item_of};
 
 use items::Item;
-use menus::{Offer, ReadMenu};
+use menus::Offer;
 use refusals::Refusal;
 
 // What both ends go on with.
-#[derive(Clone, Copy)]
+#[derive(Clone, Copy, Debug, PartialEq, Eq)]
 pub enum Choice {
     Nothing,
     Mode(Item),
     Pcm(u8),
-    Refused(Refusal),
 }
 
-// The lowest item from 1 to 12, 0 where there is none.
-fn lowest_item(items: u16) -> u8
-    ensures { result ≡ lowest items }
+// The lowest item from 1 to 12.
+fn lowest_item(items: u16) -> Option<Item>
+    ensures { result ≡ item_of (lowest items) }
 {
-    let mut i: u8 = 1;
-    while i < items::ITEMS {
-        if items::in_set(items, Item(i)) {
-            return i;
-        }
-        i += 1;
-    }
-    0
+    (1..items::ITEMS)
+        .find(|i| items::in_set(items, Item(*i)))
+        .map(Item)
 }
 
 // PCM with the options that pair, where the functions are the same and an option pairs.
-fn pcm_choice(same_function: bool, options: u8) -> Choice
+fn pcm_choice(same_function: bool, options: u8) -> Result<Choice, Refusal>
     ensures { says_choice result ≡ pcm_choice same_function options }
 {
     if same_function && 0 < options {
-        return Choice::Pcm(options);
+        Ok(Choice::Pcm(options))
+    } else {
+        Err(Refusal::NotOffered)
     }
-    Choice::Refused(Refusal::NotOffered)
 }
 
-// The item, where there is one, the functions are the same and CM has it.
-fn item_choice(same_function: bool, offered: u16, item: u8) -> Choice
-    ensures { says_choice result ≡ item_choice same_function offered item }
+// The lowest item of JM, where there is one, the functions are the same and CM has it.
+fn item_choice(same_function: bool, cm_items: u16, jm_items: u16) -> Result<Choice, Refusal>
+    ensures { says_choice result ≡ item_choice same_function cm_items (lowest jm_items) }
 {
-    if item == 0 {
-        return Choice::Nothing;
+    let Some(item) = lowest_item(jm_items) else {
+        return Ok(Choice::Nothing);
+    };
+    if same_function && items::in_set(cm_items, item) {
+        Ok(Choice::Mode(item))
+    } else {
+        Err(Refusal::NotOffered)
     }
-    if same_function && items::in_set(offered, Item(item)) {
-        return Choice::Mode(Item(item));
-    }
-    Choice::Refused(Refusal::NotOffered)
 }
 
 // The choice from what both menus offer: PCM where it counts in JM, otherwise the lowest item of JM.
-fn choice_from(cm: Offer, jm: Offer) -> Choice
+fn choice_from(cm: Offer, jm: Offer) -> Result<Choice, Refusal>
     ensures { says_choice result ≡ chosen_from cm jm }
 {
     let same_function = cm.function == jm.function;
     if 0 < jm.pcm {
-        return pcm_choice(same_function, menus::paired_options(cm.pcm, jm.pcm));
-    }
-    item_choice(same_function, cm.items, lowest_item(jm.items))
-}
-
-// The choice from what CM offers, and JM.
-fn choice_for(cm: Offer, jm: &[u8]) -> Choice
-    ensures { says_choice result ≡ choice_for jm.now cm }
-{
-    let menu = menus::read(jm);
-    match menu {
-        ReadMenu::Refused(r) => Choice::Refused(r),
-        ReadMenu::Offers(offer) => choice_from(cm, offer),
+        pcm_choice(same_function, menus::paired_options(cm.pcm, jm.pcm))
+    } else {
+        item_choice(same_function, cm.items, jm.items)
     }
 }
 
 // The choice from CM and JM: nothing, an item, PCM with the options that pair, or a refusal.
-pub fn choice_of(cm: &[u8], jm: &[u8]) -> Choice
+pub fn choice_of(cm: &[u8], jm: &[u8]) -> Result<Choice, Refusal>
     ensures { says_choice result ≡ choice_of cm.now jm.now }
 {
-    let menu = menus::read(cm);
-    match menu {
-        ReadMenu::Refused(r) => Choice::Refused(r),
-        ReadMenu::Offers(offer) => choice_for(offer, jm),
-    }
+    let theirs = menus::read(cm)?;
+    let ours = menus::read(jm)?;
+    choice_from(theirs, ours)
 }

@@ -9,6 +9,6 @@ pub returns-then-jm-gt0 : goal.returns-then-jm-gt0
 unfolding chosen_from when
 returns-then-jm-gt0 c = simp (c.pcm_choice.ensures, c.paired_options.ensures, lt-ltb _ _ c.if-jm-gt0.true)
 
-pub returns : goal.returns
+pub returns-else-jm-gt0 : goal.returns-else-jm-gt0
 unfolding chosen_from when
-returns c = simp (c.item_choice.ensures, c.lowest_item.ensures, le-ltb _ _ c.if-jm-gt0.false)
+returns-else-jm-gt0 c = simp (c.item_choice.ensures, le-ltb _ _ c.if-jm-gt0.false)

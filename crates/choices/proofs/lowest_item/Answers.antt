@@ -1,23 +1,17 @@
--- `choices::lowest_item` meets its contract. Invariant: no item from 1 to below i is in the set, so the lowest is the lowest from i on.
+-- `choices::lowest_item` meets its contract: the first item that is found from 1 on.
 -- Assumes nothing.
-use borrow.Author.Rules.{rules}
-use native.Mathlib.Omega.{arith}
-use mathlib.Core.Path.{refl, sym, ◌∙◌}
-use Rattle.choices.proofs.Lowest.{lowest_here, lowest_on, lowest_none}
+use Rattle.std.proofs.Common.{rules, tests, ◌≡◌, refl, sym, ap, ◌∙◌}
+use Rattle.std.specs.Option.{option_map}
+use lib.Dec.{lit<}
+use Rattle.std.proofs.lemmas.Iterator.{YieldsList-from_range}
+use Rattle.std.proofs.lemmas.Iterator.Search.{find_from_yields_List}
+use Rattle.std.proofs.lemmas.Iterator.Adapters.{option_map_id}
+use Rattle.items.specs.Items.{in_set}
+use Rattle.choices.proofs.Lowest.{an_item, lowest_found}
 use Rattle.choices.proofs.lowest_item.Goals as goal
 
-pub loop-i-init : goal.loop-i-init
-loop-i-init c = (search rules, refl)
-
-pub returns-then-in_set : goal.returns-then-in_set
-returns-then-in_set c =
-    let items = c.args.items in
-    sym (c.loop-i.invariant.1 ∙ lowest_here items c.loop-i.i (omega arith) (sym c.in_set.ensures ∙ c.if-in_set.true))
-
-pub loop-i-preserved : goal.loop-i-preserved
-loop-i-preserved c =
-    let items = c.args.items in
-    (search rules, c.loop-i.invariant.1 ∙ lowest_on items c.loop-i.i (omega arith) (sym c.in_set.ensures ∙ c.if-in_set.false))
-
 pub returns : goal.returns
-returns c = sym (c.loop-i.invariant.1 ∙ lowest_none c.args.items c.loop-i.i (omega (arith, c.loop-i.invariant.0, c.loop-i-test.false)))
+returns c =
+    let found = find_from_yields_List (in_set c.args.items) _ _ c.find.result c.find.ensures.ran (YieldsList-from_range 1 13 12 refl refl) (λ x b q k. search (rules, tests)) in
+    let mapped : c.map.result ≡ option_map an_item c.find.result = search rules in
+    mapped ∙ ap (option_map an_item) (sym (option_map_id c.find.result) ∙ found) ∙ lowest_found c.args.items 1 12 (lit< tt)

@@ -11,9 +11,9 @@ pub returns-then-options-gt0 : goal.returns-then-options-gt0
 unfolding pcm_choice when both
 returns-then-options-gt0 c = simp (c.if-same_function.true, lt-ltb _ _ c.if-options-gt0.true)
 
-pub returns : goal.returns
+pub returns-else-same_function : goal.returns-else-same_function
 unfolding pcm_choice when both
-returns c = elim c.else-same_function.branch [
+returns-else-same_function c = elim c.else-same_function.branch [
   | else-same_function-via-then-same_function+else-options-gt0 w ↦ simp (w.if-same_function.true, le-ltb _ _ w.if-options-gt0.false)
   | else-same_function-via-else-same_function w ↦ simp w.if-same_function.false
 ]
