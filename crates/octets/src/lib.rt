@@ -7,7 +7,7 @@ ghost use Rattle.refusals.specs.Refusals.{fault};
 ghost use Rattle.octets.specs.Octets.{category, tag, options, category_octet, bad};
 ghost use Rattle.octets.specs.Lists.{category_fault, octet_fault, first_fault, opens, list_fault, readable, group_ends};
 
-use refusals::{Refusal, Verdict};
+use refusals::Refusal;
 
 // The tag of the call function, with which every message opens.
 pub const CALL_FUNCTION: u8 = 1;
@@ -16,14 +16,14 @@ pub const CALL_FUNCTION: u8 = 1;
 pub const MOST_OCTETS: usize = 64;
 
 // The two kinds of messages with a preamble.
-#[derive(Clone, Copy)]
+#[derive(Clone, Copy, Debug, PartialEq, Eq)]
 pub enum Kind {
     Ci,
     Menu,
 }
 
 // What an octet list is tested for.
-#[derive(Clone, Copy)]
+#[derive(Clone, Copy, Debug, PartialEq, Eq)]
 pub enum Purpose {
     Reading,
     Writing(Kind),
@@ -61,18 +61,18 @@ pub fn is_bad(b: u8) -> bool
 }
 
 // A later category octet with this tag.
-fn test_category(purpose: Purpose, t: u8) -> Verdict
+fn test_category(purpose: Purpose, t: u8) -> Result<(), Refusal>
     ensures { fault result ≡ category_fault purpose t }
 {
     match purpose {
-        Purpose::Reading => Verdict::Accepted,
+        Purpose::Reading => Ok(()),
         Purpose::Writing(kind) => match kind {
-            Kind::Ci => Verdict::Refused(Refusal::WrongCategory),
+            Kind::Ci => Err(Refusal::WrongCategory),
             Kind::Menu => {
                 if t == 0 {
-                    Verdict::Refused(Refusal::WrongCategory)
+                    Err(Refusal::WrongCategory)
                 } else {
-                    Verdict::Accepted
+                    Ok(())
                 }
             }
         },
@@ -80,31 +80,26 @@ fn test_category(purpose: Purpose, t: u8) -> Verdict
 }
 
 // An octet behind the first.
-fn test_octet(purpose: Purpose, b: u8) -> Verdict
+fn test_octet(purpose: Purpose, b: u8) -> Result<(), Refusal>
     ensures { fault result ≡ octet_fault purpose b }
 {
     if is_bad(b) {
-        return Verdict::Refused(Refusal::BadOctet);
+        return Err(Refusal::BadOctet);
     }
     if is_category(b) {
         return test_category(purpose, tag_of(b));
     }
-    Verdict::Accepted
+    Ok(())
 }
 
 // The octets behind the first.
-fn test_rest(purpose: Purpose, octets: &[u8]) -> Verdict
-    ensures { fault result ≡ first_fault purpose (drop 1 octets.now) }
+fn test_rest(purpose: Purpose, octets: &[u8]) -> Result<(), Refusal>
+    ensures { fault result ≡ first_fault purpose octets.now }
 {
-    let mut i: usize = 1;
-    while i < octets.len() {
-        let verdict = test_octet(purpose, octets[i]);
-        let Verdict::Accepted = verdict else {
-            return verdict;
-        };
-        i += 1;
+    for b in octets {
+        test_octet(purpose, *b)?;
     }
-    Verdict::Accepted
+    Ok(())
 }
 
 // The first octet: the call function's.
@@ -115,27 +110,23 @@ fn test_first(octets: &[u8]) -> bool
 }
 
 // Whether reading or writing the octets is refused: 4, 5, then 3 or 12 at the first bad octet.
-pub fn test(purpose: Purpose, octets: &[u8]) -> Verdict
+pub fn test(purpose: Purpose, octets: &[u8]) -> Result<(), Refusal>
     ensures { fault result ≡ list_fault purpose octets.now }
 {
     if MOST_OCTETS < octets.len() {
-        return Verdict::Refused(Refusal::TooManyOctets);
+        return Err(Refusal::TooManyOctets);
     }
     if test_first(octets) {
-        return test_rest(purpose, octets);
+        return test_rest(purpose, &octets[1..]);
     }
-    Verdict::Refused(Refusal::NoCallFunction)
+    Err(Refusal::NoCallFunction)
 }
 
 // Whether reading the octets gives no refusal.
 pub fn can_read(octets: &[u8]) -> bool
     ensures { result ≡ readable octets.now }
 {
-    let verdict = test(Purpose::Reading, octets);
-    match verdict {
-        Verdict::Accepted => true,
-        Verdict::Refused(_) => false,
-    }
+    test(Purpose::Reading, octets).is_ok()
 }
 
 // Whether a group that stands before this place ends there: no octet follows, or one with b4 = 0.
@@ -149,15 +140,5 @@ pub fn group_ends(octets: &[u8], i: usize) -> bool
 pub fn same(a: &[u8], b: &[u8]) -> bool
     ensures { result ≡ same_list a.now b.now }
 {
-    if a.len() != b.len() {
-        return false;
-    }
-    let mut i: usize = 0;
-    while i < a.len() {
-        if a[i] != b[i] {
-            return false;
-        }
-        i += 1;
-    }
-    true
+    a == b
 }

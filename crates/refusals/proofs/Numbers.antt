@@ -1,4 +1,4 @@
--- A refusal is known by its number, and a verdict by its fault: no two share one, since the refusal of a number is found in a list.
+-- A refusal is known by its number, and what a test answers by its fault: no two share one, since the refusal of a number is found in a list.
 -- Assumes nothing.
 use Prim.Native.Nat.{ℕ, ◌-◌}
 use native.Mathlib.Omega.{arith}
@@ -7,8 +7,11 @@ use mathlib.Core.List.{[], ◌∷◌}
 use lib.ListN.{get_or}
 use Rattle.refusals.specs.declared.Refusal.{Refusal}
 use Rattle.refusals.specs.declared.Refusal.TheVariants.{NotABit, StopBitZero, BadOctet, TooManyOctets, NoCallFunction, ShortBuffer, AfterOver, Clock, WrongEvent, BadRecord, NotOffered, WrongCategory, CutShort, BadBlock, BadPacking, BadCadence}
-use Rattle.refusals.specs.declared.Verdict.{Verdict}
-use Rattle.refusals.specs.declared.Verdict.TheVariants.{Accepted, Refused}
+use mathlib.Core.Bool.{Bool, true, false}
+use borrow.Author.Tests.{ne_eqb}
+use lib.Dec.{eqb}
+use Rattle.std.specs.Prelude.{Result, Ok, Err}
+use Rattle.std.specs.Result.{is_ok}
 use Rattle.refusals.specs.Refusals.{number, fault}
 
 -- the refusal of a number
@@ -42,8 +45,13 @@ number_some r e =
     let z : r ≡ NotABit = sym (named_number r) ∙ ap named e in
     omega (arith, ap number z, e)
 
-pub fault_injective : (v w : Verdict) → fault v ≡ fault w → v ≡ w
-fault_injective Accepted Accepted e = refl
-fault_injective Accepted (Refused s) e = absurd (number_some s (sym e))
-fault_injective (Refused r) Accepted e = absurd (number_some r e)
-fault_injective (Refused r) (Refused s) e = ap Refused (number_injective r s e)
+pub fault_injective : (v w : Result Unit Refusal) → fault v ≡ fault w → v ≡ w
+fault_injective (Ok t) (Ok u) e = refl
+fault_injective (Ok t) (Err s) e = absurd (number_some s (sym e))
+fault_injective (Err r) (Ok u) e = absurd (number_some r e)
+fault_injective (Err r) (Err s) e = ap Err (number_injective r s e)
+
+-- what is accepted has fault 0
+pub is_ok_fault : (v : Result Unit Refusal) → is_ok v ≡ eqb (fault v) 0
+is_ok_fault (Ok t) = refl
+is_ok_fault (Err r) = sym (ne_eqb (number r) 0 (number_some r))

@@ -14,31 +14,30 @@ use Rattle.laws.specs.Front.{front}
 use Rattle.laws.proofs.Logic.{either_way}
 use Rattle.refusals.specs.declared.Refusal.{Refusal}
 use Rattle.refusals.specs.declared.Refusal.TheVariants.{ShortBuffer}
-use Rattle.refusals.specs.declared.Wrote.{Wrote}
-use Rattle.refusals.specs.declared.Wrote.TheVariants.{Count, Refused}
+use Rattle.std.specs.Prelude.{Result, Ok, Err}
 use Rattle.refusals.specs.Refusals.{number, before}
 use Rattle.refusals.specs.Lent.{Said, count, refusal, says_wrote, WriteOutcome, room_fault, put, Meets}
 use Rattle.refusals.proofs.Numbers.{named, named_number, number_some}
 
 module _ (new out : List ℕ) where
   -- by the room
-  pub meets_short : length out < length new → Meets (put (room_fault new out) new out) (Refused ShortBuffer) out
+  pub meets_short : length out < length new → Meets (put (room_fault new out) new out) (Err ShortBuffer) out
   unfolding put when
   meets_short h = record { answer = simp (lt-ltb _ _ h); buffer = simp (lt-ltb _ _ h) }
 
-  pub meets_put : (n : ℕ) (after : List ℕ) → length new ≤ length out → n ≡ length new → after ≡ front new out → Meets (put (room_fault new out) new out) (Count n) after
+  pub meets_put : (n : ℕ) (after : List ℕ) → length new ≤ length out → n ≡ length new → after ≡ front new out → Meets (put (room_fault new out) new out) (Ok n) after
   unfolding put when
   meets_put n after h e f = record { answer = simp (le-ltb _ _ h) (ap count e); buffer = simp (le-ltb _ _ h) f }
 
   -- and by a test that comes first
   module _ (f g : ℕ) where
-    pub meets_refused : (r : Refusal) → number r ≡ f → Meets (put (before f g) new out) (Refused r) out
+    pub meets_refused : (r : Refusal) → number r ≡ f → Meets (put (before f g) new out) (Err r) out
     unfolding put when
     meets_refused r e =
         let some = ne_eqb f 0 (λ z. number_some r (e ∙ z)) in
         record { answer = simp some (ap refusal e); buffer = simp some }
 
-    pub meets_accepted : (r : Wrote) (after : List ℕ) → f ≡ 0 → Meets (put g new out) r after → Meets (put (before f g) new out) r after
+    pub meets_accepted : (r : Result ℕ Refusal) (after : List ℕ) → f ≡ 0 → Meets (put g new out) r after → Meets (put (before f g) new out) r after
     unfolding when
     meets_accepted r after e m = simp (eq-eqb _ _ e) m
 
@@ -62,17 +61,17 @@ counted f new out size =
     (λ _ said. absurd (let z : ⊥ = omega (arith, ap count_said said) in z))
 
 -- no two answers say the same
-abbrev saying : Said → Wrote
-saying (count n) = Count n
-saying (refusal n) = Refused (named n)
+abbrev saying : Said → Result ℕ Refusal
+saying (count n) = Ok n
+saying (refusal n) = Err (named n)
 
-said : (r : Wrote) → saying (says_wrote r) ≡ r
-said (Count n) = refl
-said (Refused r) = ap Refused (named_number r)
+said : (r : Result ℕ Refusal) → saying (says_wrote r) ≡ r
+said (Ok n) = refl
+said (Err r) = ap Err (named_number r)
 
-pub says_wrote_injective : (r s : Wrote) → says_wrote r ≡ says_wrote s → r ≡ s
+pub says_wrote_injective : (r s : Result ℕ Refusal) → says_wrote r ≡ says_wrote s → r ≡ s
 says_wrote_injective r s e = sym (said r) ∙ ap saying e ∙ said s
 
 -- two results that meet what is laid down are equal
-pub meets_unique : (laid : WriteOutcome) (r s : Wrote) (after before : List ℕ) → Meets laid r after → Meets laid s before → (r ≡ s) × (after ≡ before)
+pub meets_unique : (laid : WriteOutcome) (r s : Result ℕ Refusal) (after before : List ℕ) → Meets laid r after → Meets laid s before → (r ≡ s) × (after ≡ before)
 meets_unique laid r s after before p q = (says_wrote_injective r s (p.answer ∙ sym q.answer), p.buffer ∙ sym q.buffer)

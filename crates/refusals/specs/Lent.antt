@@ -1,9 +1,8 @@
 -- Document 01, 'Bits on the line' and 'Refusal numbers': what a call that writes answers, and what it leaves in the lent buffer.
-use Rattle.std.specs.Prelude.{ℕ, ◌≡◌, List, ltb, eqb, length}
+use Rattle.std.specs.Prelude.{ℕ, ◌≡◌, Result, Ok, Err, List, ltb, eqb, length}
 use Rattle.laws.specs.Logic.{when}
 use Rattle.laws.specs.Front.{front}
-use Rattle.refusals.specs.declared.Wrote.{Wrote}
-use Rattle.refusals.specs.declared.Wrote.TheVariants.{Count, Refused}
+use Rattle.refusals.specs.declared.Refusal.{Refusal}
 use Rattle.refusals.specs.Refusals.{number}
 
 -- "answers the number of bits written", or "A refusal carries its number alone."
@@ -12,9 +11,9 @@ pub data Said : Type 0 where
   refusal : ℕ → Said
 
 -- what an answer says on paper
-abbrev pub says_wrote : Wrote → Said
-says_wrote (Count n) = count n
-says_wrote (Refused r) = refusal (number r)
+abbrev pub says_wrote : Result ℕ Refusal → Said
+says_wrote (Ok n) = count n
+says_wrote (Err r) = refusal (number r)
 
 -- what a call leaves: its answer, and the lent buffer
 pub record WriteOutcome : Type 0 where
@@ -32,6 +31,6 @@ put f new out =
     (record { answer = refusal f; buffer = out })
 
 -- a result that is as laid down
-pub record Meets (laid : WriteOutcome) (r : Wrote) (after : List ℕ) : Type 0 where
+pub record Meets (laid : WriteOutcome) (r : Result ℕ Refusal) (after : List ℕ) : Type 0 where
   pub answer : says_wrote r ≡ laid.answer
   pub buffer : after ≡ laid.buffer

@@ -1,10 +1,8 @@
 -- Document 01, 'Refusal numbers', and the numbers of the requests.
-use Rattle.std.specs.Prelude.{ℕ, eqb}
+use Rattle.std.specs.Prelude.{ℕ, Result, Ok, Err, eqb}
 use Rattle.laws.specs.Logic.{when}
 use Rattle.refusals.specs.declared.Refusal.{Refusal}
 use Rattle.refusals.specs.declared.Refusal.TheVariants.{NotABit, StopBitZero, BadOctet, TooManyOctets, NoCallFunction, ShortBuffer, AfterOver, Clock, WrongEvent, BadRecord, NotOffered, WrongCategory, CutShort, BadBlock, BadPacking, BadCadence}
-use Rattle.refusals.specs.declared.Verdict.{Verdict}
-use Rattle.refusals.specs.declared.Verdict.TheVariants.{Accepted, Refused}
 
 -- the table's first column; document 02, Req 02: "15 more than four bits left over, or leftover bits or options not 0; 14 block longer than what
 -- remains or a code that doesn't fit in it"; Req 04: "16 cadence outside these numbers"
@@ -26,10 +24,10 @@ number BadBlock = 14
 number BadPacking = 15
 number BadCadence = 16
 
--- "A refusal carries its number alone": a verdict as that number, or 0 where nothing is refused
-abbrev pub fault : Verdict → ℕ
-fault Accepted = 0
-fault (Refused r) = number r
+-- "A refusal carries its number alone": what a test answers as that number, or 0 where nothing is refused
+abbrev pub fault : Result Unit Refusal → ℕ
+fault (Ok t) = 0
+fault (Err r) = number r
 
 -- the order of refusals: the first number, or where that is 0 the second
 abbrev pub before : ℕ → ℕ → ℕ
