@@ -1,17 +1,13 @@
 // The ladder: rows of what happens to the caller on the left and to the answerer on the right, and between them what is sent and heard.
-ghost use Rattle.std.specs.Prelude.{◌<◌, ◌≤◌};
+ghost use Rattle.std.specs.Prelude.{◌<◌, ◌≤◌, length};
 
-use super::line::Line;
-use super::words::{Text, blank, put_words};
-use super::{line, words};
+use super::line::{Line, Made, Told};
+use super::words;
+use super::words::Text;
 use fields::{Block, Span};
 use menus::{Offer, ReadMenu};
 use refusals::{Refusal, Wrote};
-use std::num::{wrapping_add_u8, wrapping_add_usize, wrapping_sub_usize};
 use steps::Session;
-
-// The number of standard output.
-pub const STDOUT: i32 = 1;
 
 // The columns: milliseconds end at 5, the ends' own stand at 7 and 86, and the middle has the 66 between 19 and 85.
 const CLOCK_END: usize = 5;
@@ -22,350 +18,348 @@ const BEFORE_MIDDLE: usize = 18;
 
 const MIDDLE: usize = 19;
 
-const LAST_OF_MIDDLE: usize = 85;
-
 const ANSWERER_COLUMN: usize = 86;
 
 // How much of a text stands in a row, with the blank before it: the rest of the middle is for an arrow.
 const PIECE: usize = 63;
 
-// The last byte of a text, which is a blank.
-const LAST: usize = 639;
+// The arrows, over the whole middle.
+const TO_ANSWERER: &str = "----------------------------------------------------------------->";
 
-// What happens: a state that is entered has its own number, and a report stands behind these.
-const REPORTS: u8 = 11;
+const TO_CALLER: &str = "<-----------------------------------------------------------------";
 
-// The length of a text without the blanks at its end, and without its last byte.
-fn trimmed(text: Text) -> usize
-    ensures { result ≤ 639 }
-{
-    let bytes = text.bytes;
-    let mut n: usize = LAST;
-    while 0 < n {
-        if bytes[n - 1] != b' ' {
-            return n;
+// The heading of the ladder.
+pub const HEADING: &str =
+    "   ms  caller                                                                         answerer";
+
+// What is said of a call that is not over.
+pub const NOT_OVER: &str = "the call is not over after 30 seconds";
+
+// What happens to an end: it enters a state, or something is told of what it hears.
+#[derive(Clone, Copy)]
+enum Event {
+    Entered(u8),
+    Heard(Told),
+}
+
+impl Event {
+    // The word for it, in the column of the end.
+    fn word(self) -> &'static str {
+        match self {
+            Event::Entered(state) => state_word(state),
+            Event::Heard(Told::Agreed) => "agreed",
+            Event::Heard(Told::NotAnswered(_)) => "refused",
+            Event::Heard(Told::Refused(_)) => "refused",
+            Event::Heard(_) => "hears",
         }
-        n -= 1;
     }
-    0
+
+    // What is sent crosses the middle.
+    fn arrow(self) -> &'static str {
+        match self {
+            Event::Entered(state) => state_arrow(state),
+            Event::Heard(_) => "",
+        }
+    }
 }
 
-// Writes a line, without the blanks at its end.
-pub fn say(text: Text) {
-    let n = trimmed(text);
-    let mut bytes = text.bytes;
-    bytes[n] = b'\n';
-    io::write_all(STDOUT, line::part(&bytes, n + 1));
+fn state_word(state: u8) -> &'static str {
+    match state {
+        steps::CALLER_STILL => "still",
+        steps::CALLING => "calling",
+        steps::QUIET => "quiet",
+        steps::MENU => "menu",
+        steps::CLOSING => "closing",
+        steps::PAUSE => "pause",
+        steps::ANSWERER_STILL => "still",
+        steps::ANSWERING => "answering",
+        steps::JOINT => "joint",
+        steps::OVER => "over",
+        _ => "",
+    }
 }
 
-// Octets, a blank before each, and so many more before the first.
-fn put_octets(text: Text, apart: usize, octets: &[u8]) -> Text {
-    let mut bytes = text.bytes;
-    let mut n = wrapping_add_usize(text.len, apart);
-    let mut i: usize = 0;
-    while i < octets.len() {
-        n = printing::put_octet(&mut bytes, wrapping_add_usize(n, 1), octets[i]);
-        i += 1;
-    }
-    Text {
-        bytes: bytes,
-        len: n,
+fn state_arrow(state: u8) -> &'static str {
+    match state {
+        steps::CALLING => TO_ANSWERER,
+        steps::MENU => TO_ANSWERER,
+        steps::CLOSING => TO_ANSWERER,
+        steps::ANSWERING => TO_CALLER,
+        steps::JOINT => TO_CALLER,
+        _ => "",
     }
 }
 
 // What a menu offers; nothing where it cannot be read.
 pub fn offer_in(octets: &[u8]) -> Offer {
-    let menu = menus::read(octets);
-    match menu {
+    match menus::read(octets) {
         ReadMenu::Offers(offer) => offer,
         ReadMenu::Refused(_) => codes::no_offer(),
     }
 }
 
-// The modes of an offer, as a set of names.
+// The modes of an offer, as a set of names: the items, and behind them PCM.
 fn modes_of(offer: Offer) -> u16 {
-    offer.items % 8192 / 2 * 2 + 8192 * ((offer.pcm % 8) as u16)
+    offer.items & 0x1ffe | u16::from(offer.pcm & 7) << 13
 }
 
-// 1 for LAPM, 2 for an access group.
-fn options_of(offer: Offer) -> u8 {
-    offer.lapm as u8 % 2 + 2 * (offer.access as u8 % 2)
-}
-
-// A menu, by the number of its name: what it offers, and its octets.
-fn menu_text(name: u8, octets: &[u8]) -> Text {
-    let offer = offer_in(octets);
+// What a menu offers, behind its name.
+fn put_offer(name: Text, offer: Offer) -> Text {
+    let mut text = name.put_names(names::FUNCTION, 1 << (offer.function % 8));
     let modes = modes_of(offer);
-    let access = offer.access_options as u16;
-    let sets = [
-        0,
-        0,
-        0,
-        1 << (offer.function % 8),
-        modes,
-        0,
-        0,
-        0,
-        0,
-        access,
-        0,
-    ];
-    let is_some = match modes {
-        0 => 0,
-        _ => 1,
-    };
-    let named = words::put_named(blank(), name, 0, sets);
-    let offered = words::put_named(named, words::MODES, is_some, sets);
-    let all = words::put_named(offered, words::OPTIONS, options_of(offer), sets);
-    put_octets(all, least(octets.len(), 1), octets)
-}
-
-// The lesser of two numbers.
-pub fn least(a: usize, b: usize) -> usize
-    ensures { (result ≤ a) × (result ≤ b) }
-{
-    if a < b {
-        return a;
+    if modes != 0 {
+        text = text.put_words(":").put_names(names::MODE, modes);
     }
-    b
-}
-
-// Where the piece of a text ends that begins with the blank at a place: at the last blank that it has room for.
-fn piece_end(text: Text, from: usize, len: usize) -> usize
-    requires from_lt_len { from < len }
-    requires len_bound { len ≤ 639 }
-    ensures { (from < result) × (result ≤ len) }
-{
-    let bytes = text.bytes;
-    let mut end = len;
-    while from + 1 < end {
-        if bytes[end] == b' ' {
-            if end - from <= PIECE {
-                return end;
-            }
-        }
-        end -= 1;
+    if offer.lapm {
+        text = text.put_words(", LAPM");
     }
-    end
-}
-
-// Milliseconds, up to the column where they end; nothing in further rows.
-fn clock(now: u32, what: u8) -> Text {
-    let digits = words::put_number(blank(), 0, now as u64);
-    match what {
-        0 => blank(),
-        _ => words::put_number(
-            blank(),
-            wrapping_sub_usize(CLOCK_END, digits.len),
-            now as u64,
-        ),
-    }
-}
-
-// A piece of a text, with the blanks around it, from a column on.
-fn put_piece(row: Text, column: usize, text: Text, from: usize, to: usize) -> Text
-    requires from_lt_to { from < to }
-    requires to_bound { to ≤ 639 }
-{
-    let source = text.bytes;
-    let mut next = row;
-    next.len = column;
-    let mut i = from;
-    while i <= to {
-        next = words::put(next, source[i]);
-        i += 1;
-    }
-    next
-}
-
-// A word of the table, from a column on.
-fn put_at(row: Text, column: usize, group: u8, number: u8) -> Text {
-    let mut next = row;
-    next.len = column;
-    put_words(next, group, number)
-}
-
-// A row: the clock and the word for what happens to an end, both empty in further rows, and a piece of the text at the side of the end.
-fn row(now: u32, end: u8, what: u8, text: Text, from: usize, to: usize) -> Text
-    requires from_lt_to { from < to }
-    requires to_bound { to ≤ 639 }
-{
-    let arrow = put_at(clock(now, what), MIDDLE, words::ARROWS, what);
-    match end {
-        steps::CALLER => {
-            let piece = put_piece(arrow, BEFORE_MIDDLE, text, from, to);
-            put_at(piece, CALLER_COLUMN, words::WORDS, what)
-        }
-        _ => {
-            let column = wrapping_sub_usize(LAST_OF_MIDDLE, to - from);
-            let piece = put_piece(arrow, column, text, from, to);
-            put_at(piece, ANSWERER_COLUMN, words::WORDS, what)
-        }
-    }
-}
-
-// What happens to an end, with the text for it, in as many rows as it takes.
-fn tell(now: u32, end: u8, what: u8, text: Text) {
-    let len = least(text.len, LAST);
-    let mut word = what;
-    let mut from: usize = 0;
-    while from < len {
-        let to = piece_end(text, from, len);
-        say(row(now, end, word, text, from, to));
-        word = 0;
-        from = to;
-    }
-}
-
-// How a session ended, by the number of its text, and what it goes on with.
-fn put_outcome(text: Text, group: u8, number: u8, session: Session) -> Text {
-    let next = put_words(text, group, number);
-    let ended = session.ended;
-    match ended {
-        steps::GO_ON => put_words(next, words::CHOICES, session.chosen),
-        _ => next,
-    }
-}
-
-// A state is entered: what the end sends there, or how its session ended. Of calling nothing is told here: it begins with an on period.
-pub fn entered(line: Line, now: u32) {
-    let session = line.session;
-    let menu = line.menu;
-    let octets = menu.octets;
-    let state = session.state;
-    let number = wrapping_add_u8(state, session.ended);
-    let sent = wrapping_add_u8(words::SENDS, state);
-    let text = match state {
-        steps::MENU | steps::JOINT => menu_text(sent, line::menu_part(&octets, menu.len)),
-        _ => put_outcome(blank(), words::SENDS, number, session),
-    };
-    tell(now, session.end, state, text);
-}
-
-// An on period begins: the CI that is sent in it.
-pub fn calls(session: Session, now: u32) {
-    let octet = octets::category_octet(octets::CALL_FUNCTION, session.cadence.function);
-    let text = menu_text(words::HEARD + line::CI, &[octet]);
-    tell(now, session.end, steps::CALLING, text);
-}
-
-// A choice is made, by a menu that was heard.
-pub fn chosen(session: Session, choice: u8, now: u32) {
-    let text = put_words(blank(), words::CHOICES, choice);
-    tell(now, session.end, REPORTS + line::AGREED, text);
-}
-
-// A CM is not answered, by the number of the refusal among the reports.
-pub fn not_answered(session: Session, refusal: u8, now: u32) {
-    let text = put_words(put_words(blank(), words::NO_JM, 0), words::HEARD, refusal);
-    tell(now, session.end, wrapping_add_u8(REPORTS, refusal), text);
-}
-
-// A part of octets, or none where they end before it.
-fn part_of(octets: &[u8], span: Span) -> &[u8] {
-    let from = span.place;
-    if from <= octets.len() {
-        return line::part(&octets[from..], span.size);
-    }
-    &octets[0..0]
-}
-
-// A part that a block may lack, by the number of the text that says so; the one behind it leads its octets.
-fn put_part(text: Text, lacking: u8, octets: &[u8]) -> Text {
-    let len = octets.len();
-    match len {
-        0 => put_words(text, lacking, 0),
-        _ => put_octets(put_words(text, lacking, 1), 0, octets),
-    }
-}
-
-fn is_printable(octets: &[u8]) -> bool {
-    let mut i: usize = 0;
-    while i < octets.len() {
-        let b = octets[i];
-        if words::shown(b) != b {
-            return false;
-        }
-        i += 1;
-    }
-    0 < i
-}
-
-// Octets as characters, where there are some and all of them are printable.
-fn put_quoted(text: Text, octets: &[u8]) -> Text {
-    if is_printable(octets) {
-        let opened = words::put(words::put(text, b' '), b'"');
-        return words::put(words::put_shown(opened, octets), b'"');
+    if offer.access {
+        text = text
+            .put_words(", access")
+            .put_names(names::ACCESS, u16::from(offer.access_options));
     }
     text
 }
 
+// A menu, or a CI: its name, what it offers, and its octets.
+fn menu_text(name: &str, octets: &[u8]) -> Text {
+    put_offer(Text::of(name), offer_in(octets))
+        .put(b' ')
+        .put_octets(octets)
+}
+
+// How long the piece is that fills a row with the front of a text, with the blanks around it: up to the last blank that it has room for.
+fn piece_len(rest: &[u8]) -> usize
+    requires { 1 < length rest.now }
+    ensures { (1 < result) × (result ≤ length rest.now) }
+{
+    let most = rest.len().min(PIECE + 1);
+    match rest[2..most].iter().rposition(|b| *b == b' ') {
+        Some(place) => place + 3,
+        None => 2,
+    }
+}
+
+// Milliseconds, up to the column where they end.
+fn clock(now: u32) -> Text {
+    let digits = Text::blank().put_number(u64::from(now)).len();
+    Text::blank()
+        .at(CLOCK_END.saturating_sub(digits))
+        .put_number(u64::from(now))
+}
+
+// A row for an end, with a piece of a text at its side of the middle and a word in its own column.
+fn put_end(row: Text, end: u8, piece: &[u8], word: &str) -> Text {
+    match end {
+        steps::CALLER => row
+            .at(BEFORE_MIDDLE)
+            .put_bytes(piece)
+            .at(CALLER_COLUMN)
+            .put_words(word),
+        _ => row
+            .at(ANSWERER_COLUMN.saturating_sub(piece.len()))
+            .put_bytes(piece)
+            .at(ANSWERER_COLUMN)
+            .put_words(word),
+    }
+}
+
+// A row: the clock, an arrow and a word for what happens to an end, which further rows have not, and a piece of the text for it.
+fn row(line: &Line, event: Option<Event>, piece: &[u8]) -> Text {
+    let end = line.session.end;
+    match event {
+        Some(event) => {
+            let arrow = clock(line.now).at(MIDDLE).put_words(event.arrow());
+            put_end(arrow, end, piece, event.word())
+        }
+        None => put_end(Text::blank(), end, piece, ""),
+    }
+}
+
+// What happens to an end, with the text for it, in as many rows as it takes; with no event, further rows of the last one.
+fn tell(line: &Line, event: Option<Event>, text: Text) {
+    let mut event = event;
+    let mut rest = text.bytes();
+    while 1 < rest.len() {
+        let len = piece_len(rest);
+        row(line, event, &rest[..len]).say();
+        event = None;
+        rest = &rest[len - 1..];
+    }
+}
+
+// What both ends go on with, by its number.
+fn choice_words(choice: u8) -> &'static str {
+    match choice {
+        0 => " no shared mode",
+        1 => " item 1 (V.34 duplex)",
+        2 => " item 2 (V.34 half duplex)",
+        3 => " item 3 (V.32 bis)",
+        4 => " item 4 (V.22 bis)",
+        5 => " item 5 (V.17)",
+        6 => " item 6 (V.29 half duplex)",
+        7 => " item 7 (V.27 ter)",
+        8 => " item 8 (V.26 ter)",
+        9 => " item 9 (V.26 bis)",
+        10 => " item 10 (V.23 duplex)",
+        11 => " item 11 (V.23 half duplex)",
+        12 => " item 12 (V.21)",
+        17 => " PCM (answerer analogue)",
+        18 => " PCM (answerer digital)",
+        19 => " PCM (answerer analogue, answerer digital)",
+        20 => " PCM (V.91)",
+        21 => " PCM (answerer analogue, V.91)",
+        22 => " PCM (answerer digital, V.91)",
+        23 => " PCM (answerer analogue, answerer digital, V.91)",
+        steps::REFUSED_WITH_11 => " a choice that is refused (11)",
+        _ => "",
+    }
+}
+
+// How a session ended, and what it goes on with, behind the words for that.
+fn put_outcome(text: Text, goes_on: &str, session: Session) -> Text {
+    match session.ended {
+        steps::LEFT => text.put_words(" left"),
+        steps::LATE => text.put_words(" gave up, late"),
+        steps::CLEARED => text.put_words(" cleared, no mode is shared"),
+        steps::NOT_OFFERED => text.put_words(" ended, the choice was not offered"),
+        steps::GO_ON => text
+            .put_words(goes_on)
+            .put_words(choice_words(session.chosen)),
+        _ => text,
+    }
+}
+
+const GOES_ON: &str = " goes on with";
+
+// A state is entered: what the end sends there, or how its session ended. Where nothing is sent, a blank keeps the row. Of calling nothing
+// is told here: it begins with an on period.
+pub fn entered(line: &Line) {
+    let state = line.session.state;
+    let text = match state {
+        steps::CALLING => Text::blank(),
+        steps::MENU => menu_text(" CM", line.menu.octets()),
+        steps::JOINT => menu_text(" JM", line.menu.octets()),
+        steps::CLOSING => Text::of(" CJ"),
+        steps::ANSWERING => Text::of(" ANSam"),
+        steps::OVER => put_outcome(Text::blank(), GOES_ON, line.session),
+        _ => Text::of(" "),
+    };
+    tell(line, Some(Event::Entered(state)), text);
+}
+
+// An on period begins: the CI that is sent in it.
+pub fn calls(line: &Line) {
+    let octet = octets::category_octet(octets::CALL_FUNCTION, line.session.cadence.function);
+    let text = menu_text(" CI", &[octet]);
+    tell(line, Some(Event::Entered(steps::CALLING)), text);
+}
+
+// A choice is made, by a menu that was heard.
+pub fn chosen(line: &Line, choice: u8) {
+    let text = Text::of(choice_words(choice));
+    tell(line, Some(Event::Heard(Told::Agreed)), text);
+}
+
+// A CM is not answered.
+pub fn not_answered(line: &Line, refusal: u8) {
+    let text = Text::of(" no JM,").put_refusal(refusal);
+    tell(line, Some(Event::Heard(Told::NotAnswered(refusal))), text);
+}
+
+// A part of octets, or none where they end before it.
+fn part_of(octets: &[u8], span: Span) -> &[u8] {
+    if span.place <= octets.len() && span.size <= octets.len() - span.place {
+        return &octets[span.place..span.place + span.size];
+    }
+    &[]
+}
+
+// A part that a block may have: its octets behind its name, or that it lacks it.
+fn put_part(text: Text, name: &str, lacking: &str, octets: &[u8]) -> Text {
+    if octets.is_empty() {
+        return text.put_words(lacking);
+    }
+    text.put_words(name).put_octets(octets)
+}
+
+// Octets as characters, where there are some and all of them are printable.
+fn put_quoted(text: Text, octets: &[u8]) -> Text {
+    if octets.is_empty() || octets.iter().any(|b| words::shown(*b) != *b) {
+        return text;
+    }
+    text.put_words(" \"").put_bytes(octets).put(b'"')
+}
+
 // A block of a field in words.
 fn block_text(octets: &[u8], block: Block, number: usize) -> Text {
-    let first = put_words(blank(), words::BLOCK, 0);
-    let counted = words::put_number(first, first.len, number as u64);
-    let country = put_octets(
-        put_words(counted, words::COUNTRY, 0),
-        0,
-        part_of(octets, block.country),
+    let country = Text::of(" block ")
+        .put_number(number as u64)
+        .put_words(": country")
+        .put_octets(part_of(octets, block.country));
+    let provider = put_part(
+        country,
+        ", provider",
+        ", no provider code",
+        part_of(octets, block.provider),
     );
-    let provider = put_part(country, words::PROVIDER, part_of(octets, block.provider));
     let rest = part_of(octets, block.rest);
-    put_quoted(put_part(provider, words::REST, rest), rest)
+    put_quoted(put_part(provider, ", rest", ", no rest", rest), rest)
 }
 
 // The blocks of a field, each in rows below what was heard. There are no more of them than octets.
-fn tell_blocks(octets: &[u8]) {
+fn tell_blocks(line: &Line, octets: &[u8]) {
     let mut place: usize = 0;
-    let mut number: usize = 0;
-    while number < octets.len() {
+    for before in 0..octets.len() {
         let block = fields::block_at(octets, place);
-        let size = block.whole.size;
-        if size == 0 {
+        if block.whole.size == 0 {
             return;
         }
-        number += 1;
-        tell(0, steps::ANSWERER, 0, block_text(octets, block, number));
-        place = wrapping_add_usize(place, size);
+        tell(line, None, block_text(octets, block, before + 1));
+        place = place.wrapping_add(block.whole.size);
     }
 }
 
 // Why the field of a menu is refused; a menu that cannot be read is refused whole, and of its field nothing is told.
-fn tell_refused(refusal: Refusal) {
-    let text = match refusal {
-        Refusal::BadBlock => put_words(blank(), words::BAD_FIELD, 0),
-        Refusal::BadPacking => put_words(blank(), words::BAD_FIELD, 1),
-        _ => blank(),
-    };
-    tell(0, steps::ANSWERER, 0, text);
-}
-
-// The field of a CM that was heard.
-fn tell_field(cm: &[u8]) {
-    let mut octets = [0u8; line::MOST_OCTETS];
-    let wrote = fields::read_field(cm, &mut octets);
-    match wrote {
-        Wrote::Count(len) => tell_blocks(line::menu_part(&octets, len)),
-        Wrote::Refused(refusal) => tell_refused(refusal),
+fn tell_refused(line: &Line, refusal: Refusal) {
+    match refusal {
+        Refusal::BadBlock => tell(line, None, Text::of(" its field is refused with 14")),
+        Refusal::BadPacking => tell(line, None, Text::of(" its field is refused with 15")),
+        _ => {}
     }
 }
 
-// What was heard. A menu has its name by the end that hears it. Below a CM that is not agreed yet stands what its field says.
-pub fn heard(session: Session, told: u8, octets: &[u8], now: u32) {
-    let menu = wrapping_add_u8(words::MENUS, session.end);
-    let name = match told {
-        line::MENU => menu,
-        line::AGREED => menu,
-        _ => wrapping_add_u8(words::HEARD, told),
+// The field of a CM that was heard.
+fn tell_field(line: &Line, cm: &[u8]) {
+    let mut octets = [0u8; octets::MOST_OCTETS];
+    match fields::read_field(cm, &mut octets) {
+        Wrote::Count(len) => tell_blocks(line, Made::new(octets, len).octets()),
+        Wrote::Refused(refusal) => tell_refused(line, refusal),
+    }
+}
+
+// The name of the menu that an end hears.
+fn menu_name(end: u8) -> &'static str {
+    match end {
+        steps::CALLER => " JM",
+        _ => " CM",
+    }
+}
+
+// What was heard. Below a CM that is not agreed yet stands what its field says.
+pub fn heard(line: &Line, told: Told, octets: &[u8]) {
+    let end = line.session.end;
+    let text = match told {
+        Told::Ci(_) => menu_text(" CI", octets),
+        Told::Menu => menu_text(menu_name(end), octets),
+        Told::Agreed => menu_text(menu_name(end), octets),
+        Told::Cj => Text::of(" CJ"),
+        Told::NotAnswered(refusal) => Text::blank().put_refusal(refusal),
+        Told::Refused(refusal) => Text::blank().put_refusal(refusal),
     };
-    tell(
-        now,
-        session.end,
-        wrapping_add_u8(REPORTS, told),
-        menu_text(name, octets),
-    );
-    if told == line::MENU && session.end == steps::ANSWERER {
-        tell_field(octets);
+    tell(line, Some(Event::Heard(told)), text);
+    if told == Told::Menu && end == steps::ANSWERER {
+        tell_field(line, octets);
     }
 }
 
@@ -378,10 +372,8 @@ fn is_alike(caller: Session, answerer: Session) -> bool {
 // How the call ended.
 pub fn ending(caller: Session, answerer: Session) -> Text {
     if is_alike(caller, answerer) {
-        return put_outcome(blank(), words::BOTH, caller.ended, caller);
+        return put_outcome(Text::of("both ends"), " go on with", caller);
     }
-    let differ = put_words(blank(), words::ENDS_DIFFER, 0);
-    let first = put_outcome(differ, words::OUTCOMES, caller.ended, caller);
-    let second = put_words(first, words::ANSWERER, 0);
-    put_outcome(second, words::OUTCOMES, answerer.ended, answerer)
+    let first = put_outcome(Text::of("the ends differ: the caller"), GOES_ON, caller);
+    put_outcome(first.put_words("; the answerer"), GOES_ON, answerer)
 }

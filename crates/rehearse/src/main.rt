@@ -4,20 +4,19 @@
 // what one looks like.
 #![tactic(auto)]
 
+mod help;
 mod ladder;
 mod line;
 mod words;
 
 ghost use Rattle.std.specs.Prelude.{◌≡◌, ◌<◌, length};
 
-use ladder::say;
 use line::{Line, MOST_OCTETS, Made};
 use octets::{Kind, Purpose};
 use plans::Plan;
 use refusals::{Refusal, Verdict, Wrote};
-use std::num::wrapping_sub_u32;
 use steps::{Session, Started};
-use words::{Text, blank, put_words};
+use words::Text;
 
 // The number of standard input.
 const STDIN: i32 = 0;
@@ -40,9 +39,6 @@ const DATA: u8 = 6;
 // How many bits both ends send.
 const LINE_BITS: usize = 2 * plans::BIT_TIMES;
 
-// How many lines say what a call text looks like.
-const HELP_LINES: u8 = 28;
-
 // Room, with a promise of its length: where a large array is made, its length takes long to prove.
 fn room() -> [u8; ROOM]
     ensures { 131072 ≡ length result }
@@ -58,11 +54,10 @@ fn undamaged() -> [u8; LINE_BITS]
 }
 
 // A bit as it arrives: inverted where it is damaged. Silence is no bit, and damage changes nothing of it.
-fn arriving(bit: u8, damaged: &[u8], place: usize) -> u8 {
-    if bit != cadence::SILENCE && place < damaged.len() {
-        return bit ^ damaged[place];
-    }
-    bit
+fn arriving(bit: Option<u8>, damaged: &[u8], place: usize) -> Option<u8> {
+    let bit = bit?;
+    let damage = damaged.get(place).copied().unwrap_or(0);
+    Some(bit ^ damage)
 }
 
 // Both ends of the line.
@@ -72,71 +67,69 @@ struct Ends {
     answerer: Line,
 }
 
-// One bit time: each end sends a bit, and hears that of the other.
-fn bit_time(ends: Ends, damaged: &[u8], time: u32) -> Ends
-    requires { time < 9000 }
-{
-    let now = time * 10 / 3;
-    let caller = ends.caller;
-    let answerer = ends.answerer;
-    let calling = line::line_bit(line::line_tick(caller, answerer.session, now), now);
-    let answering = line::line_bit(line::line_tick(answerer, caller.session, now), now);
-    let there = arriving(calling.bit, damaged, plans::bit_place(steps::CALLER, time));
-    let back = arriving(
-        answering.bit,
-        damaged,
-        plans::bit_place(steps::ANSWERER, time),
-    );
-    Ends {
-        caller: line::line_hear(calling, back, now),
-        answerer: line::line_hear(answering, there, now),
+impl Ends {
+    // One bit time: each end sends a bit, and hears that of the other.
+    fn bit_time(&mut self, damaged: &[u8], time: u32)
+        requires { time < 9000 }
+    {
+        let now = time * 10 / 3;
+        let caller = self.caller.session;
+        let answerer = self.answerer.session;
+        self.caller.tick(answerer, now);
+        let calling = self.caller.bit();
+        self.answerer.tick(caller, now);
+        let answering = self.answerer.bit();
+        let there = arriving(calling, damaged, plans::bit_place(steps::CALLER, time));
+        let back = arriving(answering, damaged, plans::bit_place(steps::ANSWERER, time));
+        self.caller.hear(back);
+        self.answerer.hear(there);
     }
-}
 
-fn is_over(ends: Ends) -> bool {
-    ends.caller.session.state == steps::OVER && ends.answerer.session.state == steps::OVER
+    fn is_over(&self) -> bool {
+        self.caller.session.state == steps::OVER && self.answerer.session.state == steps::OVER
+    }
+
+    // Runs the call until both ends are over, or the time is.
+    fn run(&mut self, damaged: &[u8]) {
+        for time in 0..BIT_TIMES {
+            self.bit_time(damaged, time);
+            if self.is_over() {
+                return;
+            }
+        }
+    }
+
+    // How the call ended.
+    fn ending(&self) -> Text {
+        if self.is_over() {
+            return ladder::ending(self.caller.session, self.answerer.session);
+        }
+        Text::of(ladder::NOT_OVER)
+    }
 }
 
 // When the answerer comes on the line: it is still before it answers.
 fn comes(plan: Plan) -> u32 {
-    wrapping_sub_u32(plan.answers as u32, plans::FIRST_ANSWER)
-}
-
-// Runs the call until both ends are over, or the time is.
-fn run(plan: Plan, first: Session, cm: Made, damaged: &[u8]) -> Ends {
-    let caller = line::with_menu(line::line_start(first, plan), cm);
-    let answerer = line::line_start(steps::start_answerer(comes(plan)), plan);
-    let mut ends = Ends {
-        caller: caller,
-        answerer: answerer,
-    };
-    let mut time: u32 = 0;
-    while time < BIT_TIMES {
-        ends = bit_time(ends, damaged, time);
-        if is_over(ends) {
-            return ends;
-        }
-        time += 1;
-    }
-    ends
+    u32::from(plan.answers).wrapping_sub(plans::FIRST_ANSWER)
 }
 
 // The ladder of a call, and how it ended.
 fn put_ladder(plan: Plan, first: Session, cm: Made, damaged: &[u8]) {
-    say(put_words(blank(), words::HEADING, 0));
-    let ends = run(plan, first, cm, damaged);
-    if is_over(ends) {
-        say(ladder::ending(ends.caller.session, ends.answerer.session));
-        return;
-    }
-    say(put_words(blank(), words::BOTH, steps::GOING));
+    Text::of(ladder::HEADING).say();
+    let mut ends = Ends {
+        caller: Line::new(first, plan),
+        answerer: Line::new(steps::start_answerer(comes(plan)), plan),
+    };
+    ends.caller.set_menu(cm);
+    ends.run(damaged);
+    ends.ending().say();
 }
 
 // The plan as it was understood.
 fn put_plan(plan: Plan, cm: &[u8], blocks: &[u8], damaged: &[u8]) {
     let mut page = room();
     let n = plans::put_plan(&mut page, 0, plan, cm, blocks, damaged);
-    io::write_all(ladder::STDOUT, line::part(&page, n));
+    io::write_all(words::STDOUT, &page[..n.min(ROOM)]);
 }
 
 // The function that CI names: that of CM, or data where a stranger's CM calls for none of the six.
@@ -150,12 +143,10 @@ fn called(cm: &[u8]) -> u8 {
 
 // The ladder of a plan: it has a Te and a cadence that a caller starts with.
 fn put_started(plan: Plan, cm: Made, damaged: &[u8]) {
-    let octets = cm.octets;
-    let function = called(line::menu_part(&octets, cm.len));
-    let started = steps::start_caller(0, plan.te as u32, function, plan.on, plan.off);
-    match started {
-        Started::Ready(first) => put_ladder(plan, first, cm, damaged),
-        Started::Refused(_) => {}
+    let function = called(cm.octets());
+    let started = steps::start_caller(0, u32::from(plan.te), function, plan.on, plan.off);
+    if let Started::Ready(first) = started {
+        put_ladder(plan, first, cm, damaged);
     }
 }
 
@@ -163,17 +154,18 @@ fn put_started(plan: Plan, cm: Made, damaged: &[u8]) {
 fn put_call(text: &[u8], plan: Plan, blocks: &[u8], cm: Made) {
     let mut damaged = undamaged();
     plans::mark(text, &mut damaged);
-    let octets = cm.octets;
-    put_plan(plan, line::menu_part(&octets, cm.len), blocks, &damaged);
-    say(blank());
+    put_plan(plan, cm.octets(), blocks, &damaged);
+    Text::blank().say();
     put_started(plan, cm, &damaged);
 }
 
 // Why there is no CM for a plan: its blocks do not fit, or its octets are no blocks.
-fn unmade(refusal: Refusal) -> Text {
+fn unmade(refusal: Refusal) -> &'static str {
     match refusal {
-        Refusal::TooManyOctets => put_words(blank(), words::UNMADE, 0),
-        _ => put_words(blank(), words::UNMADE, 1),
+        Refusal::TooManyOctets => "the blocks do not fit into a CM of 64 octets",
+        _ => {
+            "the octets are not blocks: a block is longer than what remains, or a code does not fit in it"
+        }
     }
 }
 
@@ -181,85 +173,63 @@ fn unmade(refusal: Refusal) -> Text {
 fn call_known(text: &[u8], plan: Plan, blocks: &[u8]) {
     let own = plans::record_of(plan, steps::CALLER);
     let mut made = [0u8; MOST_OCTETS];
-    let wrote = offers::make_cm(own, plan.function, blocks, &mut made);
-    match wrote {
-        Wrote::Count(len) => {
-            let cm = Made {
-                octets: made,
-                len: len,
-            };
-            put_call(text, plan, blocks, cm);
-        }
-        Wrote::Refused(refusal) => say(unmade(refusal)),
+    match offers::make_cm(own, plan.function, blocks, &mut made) {
+        Wrote::Count(len) => put_call(text, plan, blocks, Made::new(made, len)),
+        Wrote::Refused(refusal) => Text::of(unmade(refusal)).say(),
     }
 }
 
-// The CM that a text gives, which has room.
-fn given(text: &[u8]) -> Made {
+// The octets of blocks or of a CM that a text gives, as far as a menu has room for them.
+fn given(text: &[u8], whose: u8) -> Made {
     let mut octets = [0u8; MOST_OCTETS];
-    let len = plans::put_octets_of(text, plans::OF_CM, &mut octets);
-    Made {
-        octets: octets,
-        len: len,
-    }
+    let count = plans::put_octets_of(text, whose, &mut octets);
+    Made::new(octets, count)
 }
 
 // Why the CM that a text gives cannot be sent.
 fn unsent(refusal: Refusal) -> Text {
-    put_words(
-        put_words(blank(), words::UNSENT, 0),
-        words::HEARD,
-        line::refused(refusal),
-    )
+    Text::of("the CM that is given cannot be sent,").put_refusal(refusals::refusal_number(refusal))
 }
 
 // The call of a stranger, where the CM that the text gives can be sent.
 fn call_given(text: &[u8], plan: Plan) {
     let mut octets = [0u8; MOST_GIVEN];
     let count = plans::put_octets_of(text, plans::OF_CM, &mut octets);
-    let cm = line::part(&octets, ladder::least(count, MOST_GIVEN));
-    let verdict = octets::test(Purpose::Writing(Kind::Menu), cm);
-    match verdict {
-        Verdict::Accepted => put_call(text, plan, &octets[0..0], given(text)),
-        Verdict::Refused(refusal) => say(unsent(refusal)),
+    let cm = &octets[..count.min(MOST_GIVEN)];
+    match octets::test(Purpose::Writing(Kind::Menu), cm) {
+        Verdict::Accepted => put_call(text, plan, &[], given(text, plans::OF_CM)),
+        Verdict::Refused(refusal) => unsent(refusal).say(),
     }
 }
 
 // A plan: its call. A menu has room for fewer octets of blocks than are kept here, so what is cut off changes nothing.
 fn call(text: &[u8], plan: Plan) {
-    let mut octets = [0u8; MOST_OCTETS];
-    let count = plans::put_octets_of(text, plans::OF_BLOCKS, &mut octets);
-    let blocks = line::menu_part(&octets, ladder::least(count, MOST_OCTETS));
+    let given = given(text, plans::OF_BLOCKS);
+    let blocks = given.octets();
     if plan.function != plans::STRANGER {
         call_known(text, plan, blocks);
-        return;
-    }
-    match count {
-        0 => call_given(text, plan),
-        _ => say(put_words(blank(), words::WITH_BLOCKS, 0)),
+    } else if blocks.is_empty() {
+        call_given(text, plan);
+    } else {
+        Text::of("a CM that is sent as it is takes no blocks").say();
     }
 }
 
 // Where a mistake stands in its line: at a word, which is cut off where it is long, or at the end.
 fn put_place(text: Text, word: &[u8]) -> Text {
-    if word.len() == 0 {
-        return put_words(text, words::AT_END, 0);
+    if word.is_empty() {
+        return text.put_words(", at its end: ");
     }
-    let len = ladder::least(word.len(), MOST_SHOWN);
-    let before = put_words(text, words::BEFORE_WORD, 0);
-    put_words(
-        words::put_shown(before, line::part(word, len)),
-        words::BEHIND_WORD,
-        0,
-    )
+    text.put_words(", '")
+        .put_shown(&word[..word.len().min(MOST_SHOWN)])
+        .put_words("': ")
 }
 
 // Where a mistake stands in a text.
 fn place(text: &[u8], at: usize) -> Text {
-    let line = put_words(blank(), words::LINE, 0);
     let number = 1 + plans::lines_before(text, at) as u64;
     put_place(
-        words::put_number(line, line.len, number),
+        Text::of("line ").put_number(number),
         plans::word_at(text, at),
     )
 }
@@ -267,38 +237,27 @@ fn place(text: &[u8], at: usize) -> Text {
 // A mistake; a text that lacks a line has no place for it.
 fn mistake(text: &[u8], what: u8, at: usize) -> Text {
     let before = match what {
-        plans::NO_CALLER => blank(),
-        plans::NO_ANSWERER => blank(),
-        plans::NO_CALL => blank(),
+        plans::NO_CALLER => Text::blank(),
+        plans::NO_ANSWERER => Text::blank(),
+        plans::NO_CALL => Text::blank(),
         _ => place(text, at),
     };
-    words::put_all(before, words::MISTAKES, what)
-}
-
-// What a call text looks like.
-fn help() {
-    let mut i: u8 = 0;
-    while i < HELP_LINES {
-        say(words::put_all(blank(), words::HELP, i));
-        i += 1;
-    }
+    help::put_mistake(before, what)
 }
 
 // A text: its call, or the first mistake in it.
 fn rehearse(text: &[u8]) {
     let read = plans::read(text);
-    let what = read.what;
-    match what {
+    match read.what {
         0 => call(text, read.plan),
-        _ => say(mistake(text, what, read.at)),
+        what => mistake(text, what, read.at).say(),
     }
 }
 
 fn answer(text: &[u8]) {
-    let len = text.len();
-    match len {
-        0 => help(),
-        ROOM.. => say(put_words(blank(), words::TOO_LONG, 0)),
+    match text.len() {
+        0 => help::say(),
+        ROOM.. => Text::of("the text is longer than 131071 bytes").say(),
         _ => rehearse(text),
     }
 }
