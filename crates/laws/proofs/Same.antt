@@ -27,6 +27,9 @@ same_pointwise [] (y ∷ ys) = refl
 same_pointwise (x ∷ xs) [] = refl
 same_pointwise (x ∷ xs) (y ∷ ys) = ap (λ t. eqb x y && t) (same_pointwise xs ys) ∙ and_both (eqb x y) (same_list xs ys)
 
+pub same_by_library : (xs ys : List ℕ) (t : Bool) → t ≡ pointwise eqb xs ys → t ≡ same_list xs ys
+same_by_library xs ys t e = e ∙ same_pointwise xs ys
+
 -- lists of different lengths are not the same
 pub same_lengths : (xs ys : List ℕ) → (length xs ≡ length ys → ⊥) → same_list xs ys ≡ false
 unfolding same_list

@@ -137,6 +137,7 @@ pub fn group_ends(octets: &[u8], i: usize) -> bool
 }
 
 // Whether two octet lists are the same.
+#[tactic(auto, using(laws::proofs::Same::same_by_library))]
 pub fn same(a: &[u8], b: &[u8]) -> bool
     ensures { result ≡ same_list a.now b.now }
 {

@@ -9,7 +9,7 @@ ghost use Rattle.sequences.specs.Writing.{written, written_cj};
 ghost use Rattle.sequences.specs.Inner.{spreads, ten_bits, sync_ten, octet_ten, Grouped};
 
 use octets::{Kind, Purpose};
-use refusals::{Refusal, Verdict, Wrote};
+use refusals::Refusal;
 
 // Four bits, a byte for each, the lowest first: 64 bytes of constants, with which the writer stores four bits at a time.
 const SPREAD: [u32; 16] = [
@@ -49,23 +49,21 @@ const FRAME: usize = 10;
 
 const CJ_BITS: usize = 30;
 
-fn four(n: u16, spread: &[u32; 16]) -> u32
-    requires n_bound { n < 16 }
-    requires spread_value { spread.now ≡ spreads }
+fn four(n: u16) -> u32
+    requires { n < 16 }
     ensures { result ≡ get_or spreads n 0 }
 {
-    spread[n as usize]
+    SPREAD[n as usize]
 }
 
 // Ten bits, the lowest first.
-fn write_ten(out: &mut [u8], v: u16, spread: &[u32; 16])
+fn write_ten(out: &mut [u8], v: u16)
     requires in_bounds { 10 ≤ length out.old }
     requires v_bound { v < 1024 }
-    requires spread_value { spread.now ≡ spreads }
     ensures { out.new ≡ front (ten_bits v) out.old }
 {
-    let low = four(v % 16, spread);
-    let high = four(v / 16 % 16, spread);
+    let low = four(v % 16);
+    let high = four(v / 16 % 16);
     out[0] = (low % 256) as u8;
     out[1] = (low / 256 % 256) as u8;
     out[2] = (low / 65536 % 256) as u8;
@@ -94,17 +92,16 @@ fn sync_ten(kind: Kind) -> u16
 }
 
 // The group at the front of the octets: its category octet with the extension octets behind it. Answers how many octets that is.
-fn write_group(out: &mut [u8], octets: &[u8], spread: &[u32; 16]) -> usize
+fn write_group(out: &mut [u8], octets: &[u8]) -> usize
     requires octets_nonzero { 0 < length octets.now }
     requires octets_len_bound { length octets.now ≤ 64 }
     requires octets_in_bounds { 10 * length octets.now ≤ length out.old }
-    requires spread_value { spread.now ≡ spreads }
     ensures { Grouped octets.now out.old result out.new }
 {
     let mut i: usize = 0;
     loop {
         let at = FRAME * i;
-        write_ten(&mut out[at..], octet_ten(octets[i]), spread);
+        write_ten(&mut out[at..], octet_ten(octets[i]));
         i += 1;
         if octets::group_ends(octets, i) {
             return i;
@@ -113,76 +110,63 @@ fn write_group(out: &mut [u8], octets: &[u8], spread: &[u32; 16]) -> usize
 }
 
 // All octets, group by group, each into what is left behind the group before it.
-fn write_groups(out: &mut [u8], octets: &[u8], spread: &[u32; 16])
+fn write_groups(out: &mut [u8], octets: &[u8])
     requires octets_len_bound { length octets.now ≤ 64 }
     requires octets_in_bounds { 10 * length octets.now ≤ length out.old }
-    requires spread_value { spread.now ≡ spreads }
     ensures { out.new ≡ front (framed_all octets.now) out.old }
 {
     let mut i: usize = 0;
     while i < octets.len() {
         let at = FRAME * i;
-        i += write_group(&mut out[at..], &octets[i..], spread);
+        i += write_group(&mut out[at..], &octets[i..]);
     }
 }
 
 // Ten 1s, ten sync bits, the octets.
-fn write_sequence(out: &mut [u8], kind: Kind, octets: &[u8], spread: &[u32; 16])
+fn write_sequence(out: &mut [u8], kind: Kind, octets: &[u8])
     requires octets_len_bound { length octets.now ≤ 64 }
     requires octets_in_bounds { 20 + 10 * length octets.now ≤ length out.old }
-    requires spread_value { spread.now ≡ spreads }
     ensures { out.new ≡ front (sequence kind octets.now) out.old }
 {
-    write_ten(out, TEN_ONES, spread);
-    write_ten(&mut out[TEN..], sync_ten(kind), spread);
-    write_groups(&mut out[PREAMBLE..], octets, spread);
+    write_ten(out, TEN_ONES);
+    write_ten(&mut out[TEN..], sync_ten(kind));
+    write_groups(&mut out[PREAMBLE..], octets);
 }
 
 // The sequence n times, each copy where the last one ended.
-fn write_copies(out: &mut [u8], kind: Kind, octets: &[u8], n: u16, spread: &[u32; 16])
+fn write_copies(out: &mut [u8], kind: Kind, octets: &[u8], n: u16)
     requires octets_len_bound { length octets.now ≤ 64 }
     requires octets_in_bounds { length (copies n (sequence kind octets.now)) ≤ length out.old }
-    requires spread_value { spread.now ≡ spreads }
     ensures { out.new ≡ front (copies n (sequence kind octets.now)) out.old }
 {
     let size = PREAMBLE + FRAME * octets.len();
     let mut at: usize = 0;
-    let mut done: u16 = 0;
-    while done < n {
-        write_sequence(&mut out[at..], kind, octets, spread);
+    for _ in 0..n {
+        write_sequence(&mut out[at..], kind, octets);
         at += size;
-        done += 1;
     }
 }
 
 // Writes the copies of a CI or a menu from the buffer's start, and answers how many bits that is.
-pub fn write(kind: Kind, octets: &[u8], n: u16, out: &mut [u8]) -> Wrote
+pub fn write(kind: Kind, octets: &[u8], n: u16, out: &mut [u8]) -> Result<usize, Refusal>
     ensures { Meets (written kind octets.now n out.old) result out.new }
 {
-    let verdict = octets::test(Purpose::Writing(kind), octets);
-    match verdict {
-        Verdict::Refused(r) => Wrote::Refused(r),
-        Verdict::Accepted => {
-            let size = n as usize * (PREAMBLE + FRAME * octets.len());
-            if out.len() < size {
-                return Wrote::Refused(Refusal::ShortBuffer);
-            }
-            let spread = SPREAD;
-            write_copies(out, kind, octets, n, &spread);
-            Wrote::Count(size)
-        }
+    octets::test(Purpose::Writing(kind), octets)?;
+    let size = n as usize * (PREAMBLE + FRAME * octets.len());
+    if out.len() < size {
+        return Err(Refusal::ShortBuffer);
     }
+    write_copies(out, kind, octets, n);
+    Ok(size)
 }
 
 // Writes CJ once, from the buffer's start.
-pub fn write_cj(out: &mut [u8]) -> Wrote
+pub fn write_cj(out: &mut [u8]) -> Result<usize, Refusal>
     ensures { Meets (written_cj out.old) result out.new }
 {
     if out.len() < CJ_BITS {
-        return Wrote::Refused(Refusal::ShortBuffer);
+        return Err(Refusal::ShortBuffer);
     }
-    let spread = SPREAD;
-    let zeros = [0u8; 3];
-    write_groups(out, &zeros, &spread);
-    Wrote::Count(CJ_BITS)
+    write_groups(out, &[0u8; 3]);
+    Ok(CJ_BITS)
 }
