@@ -1,51 +1,74 @@
--- Laws about the names, one at a time.
+-- The table of the code holds the names of the definition; and laws about the names, one at a time.
 -- Assumes nothing.
-use Prim.Native.Nat.{ℕ, suc, ◌<◌, ◌≤◌, ◌+◌, ◌/◌}
-use native.Mathlib.Omega.{arith}
-use mathlib.Core.Path.{◌≡◌, ap, ◌∙◌}
-use mathlib.Core.Bool.{true, false}
-use mathlib.Core.List.{List, [], ◌∷◌}
-use lib.ListN.{drop, drop_of_length-le}
-use lib.Seq.{drop-cons}
+use Rattle.std.proofs.Common.{ℕ, ◌≡◌, ◌+◌, ◌<◌, ◌≤◌, List, [], ◌∷◌, ◌++◌, length, drop, get_or, Bool, true, false, refl, sym, ap, add-one, eqb, ◌∙◌}
 use Rattle.std.specs.Prelude.{Some, None}
-use Rattle.laws.specs.Logic.{when}
+use lib.ListN.{drop_of_length-le}
+use lib.Seq.{drop-cons}
+use Rattle.laws.specs.Logic.{when, both}
+use Rattle.items.specs.Items.{in_set}
 use Rattle.printing.specs.Page.{Page, typed}
 use Rattle.printing.proofs.Pages.{typed_joined}
-use Rattle.names.specs.Names.{Entry, no_name, names, same_letters, meaning_of, named_by, name_of, names_of}
-use Rattle.names.specs.Inner.{name_at}
+use Rattle.names.specs.declared.TheConstants.{NAMES}
+use Rattle.names.specs.Bytes.{bytes}
+use Rattle.names.specs.Names.{Entry, names, same_letters, meaning_of, named_by, name_of, names_of}
+use Rattle.names.specs.Inner.{entry_of, entries, shown}
 
--- the names from a row on
-abbrev pub from : ℕ → List Entry
-from at = drop (at / 22) names
+pub table : entries (λ w. w.now) NAMES ≡ names
+unfolding names bytes
+table = refl
 
-module _ (at : ℕ) (h : at < 902) where
-  first : from at ≡ name_at (at / 22) ∷ from (at + 22)
-  unfolding names name_at
-  first =
-      let next : suc (at / 22) ≡ (at + 22) / 22 = omega arith in
-      drop-cons names (at / 22) no_name (omega (arith, h)) ∙ ap (λ (i : ℕ). name_at (at / 22) ∷ drop i names) next
+-- what is written of a name is chosen by both tests at once
+name_by : (a b : Bool) (text : List ℕ) → when a (when b text []) [] ≡ when (both a b) text []
+unfolding when both
+name_by true b text = refl
+name_by false b text = refl
 
-  pub named_here : (word : List ℕ) → same_letters word (name_at (at / 22)).name ≡ true → named_by (from at) word ≡ Some (meaning_of (name_at (at / 22)))
-  unfolding named_by when
-  named_here word is_name = simp (first, is_name)
+module _ {Text : Type 0} (bytes_of : Text → List ℕ) (rows : List (Text × ℕ × ℕ)) (i : ℕ) where
+  abbrev rest : ℕ → List Entry
+  rest k = entries bytes_of (drop k rows)
 
-  pub named_on : (word : List ℕ) → same_letters word (name_at (at / 22)).name ≡ false → named_by (from at) word ≡ named_by (from (at + 22)) word
-  unfolding named_by when
-  named_on word is_none = simp (first, is_none)
+  module _ (there : i < length rows) (d : Text × ℕ × ℕ) where
+    abbrev here : Entry
+    here = entry_of bytes_of (get_or rows i d)
 
-  pub names_on : (p : Page) (kind set : ℕ) → typed p (names_of kind set (from at)) ≡ typed (typed p (name_of kind set (name_at (at / 22)))) (names_of kind set (from (at + 22)))
-  unfolding names_of
-  names_on p kind set = ap (λ (rest : List Entry). typed p (names_of kind set rest)) first ∙ typed_joined p (name_of kind set (name_at (at / 22))) (names_of kind set (from (at + 22)))
+    first : rest i ≡ here ∷ rest (i + 1)
+    first = ap (entries bytes_of) (drop-cons rows i d there) ∙ ap (λ (k : ℕ). here ∷ rest k) (sym (add-one i))
 
-module _ (at : ℕ) (h : 902 ≤ at) where
-  none_left : from at ≡ []
-  unfolding names
-  none_left = let past : 41 ≤ at / 22 = omega (arith, h) in drop_of_length-le names past
+    pub named_here : (word : List ℕ) → same_letters word here.name ≡ true → named_by (rest i) word ≡ Some (meaning_of here)
+    unfolding named_by when
+    named_here word is_name = simp (first, is_name)
 
-  pub named_end : (word : List ℕ) → named_by (from at) word ≡ None
-  unfolding named_by
-  named_end word = simp none_left
+    pub named_on : (word : List ℕ) → same_letters word here.name ≡ false → named_by (rest i) word ≡ named_by (rest (i + 1)) word
+    unfolding named_by when
+    named_on word is_none = simp (first, is_none)
 
-  pub names_end : (p : Page) (kind set : ℕ) → typed p (names_of kind set (from at)) ≡ p
-  unfolding names_of typed
-  names_end p kind set = simp none_left
+    module _ (p : Page) (kind set : ℕ) where
+      written : name_of kind set here ≡ when (shown here.kind here.number kind set) (32 ∷ here.name) []
+      written = name_by (eqb here.kind kind) (in_set set here.number) (32 ∷ here.name)
+
+      name_on : (text : List ℕ) → name_of kind set here ≡ text → typed p (names_of kind set (rest i)) ≡ typed (typed p text) (names_of kind set (rest (i + 1)))
+      unfolding names_of
+      name_on text is_text =
+          ap (λ (es : List Entry). typed p (names_of kind set es)) first
+          ∙ ap (λ (name : List ℕ). typed p (name ++ names_of kind set (rest (i + 1)))) is_text
+          ∙ typed_joined p text (names_of kind set (rest (i + 1)))
+
+      pub shown_on : shown here.kind here.number kind set ≡ true → typed p (names_of kind set (rest i)) ≡ typed (typed p (32 ∷ here.name)) (names_of kind set (rest (i + 1)))
+      unfolding when
+      shown_on is_shown = name_on (32 ∷ here.name) (written ∙ simp is_shown)
+
+      pub left_out : shown here.kind here.number kind set ≡ false → typed p (names_of kind set (rest i)) ≡ typed p (names_of kind set (rest (i + 1)))
+      unfolding when typed
+      left_out is_none = name_on [] (written ∙ simp is_none)
+
+  module _ (past : length rows ≤ i) where
+    none_left : rest i ≡ []
+    none_left = ap (entries bytes_of) (drop_of_length-le rows past)
+
+    pub named_end : (word : List ℕ) → named_by (rest i) word ≡ None
+    unfolding named_by
+    named_end word = simp none_left
+
+    pub names_end : (p : Page) (kind set : ℕ) → typed p (names_of kind set (rest i)) ≡ p
+    unfolding names_of typed
+    names_end p kind set = simp none_left

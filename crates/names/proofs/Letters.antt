@@ -1,52 +1,45 @@
--- Laws about words in lower case, one letter at a time.
+-- Two words have the same letters where std says that they are the same but for upper and lower case.
 -- Assumes nothing.
-use Prim.Native.Nat.{ℕ, ◌<◌, ◌≤◌, ◌+◌}
-use native.Mathlib.Omega.{arith}
-use mathlib.Core.Path.{◌≡◌, sym, ◌∙◌}
-use mathlib.Core.Bool.{true, false}
-use mathlib.Core.List.{List, map}
-use lib.ListN.{length, get_or, drop, length-drop, length-map, get_or-map}
-use lib.Seq.{length-take-le, get_or-take, get_or-drop}
-use Rattle.laws.specs.Logic.{when}
+use Rattle.std.proofs.Common.{ℕ, ◌≡◌, ◌+◌, ◌∷◌, [], List, Bool, true, false, map, cond, leb, ltb, refl, sym, ap, ap₂, ◌∙◌, arith}
+use Rattle.std.specs.Prelude.{◌↔◌, IsTrue}
+use Rattle.std.specs.Char.{to_ascii_lowercase}
+use borrow.Author.Tests.{eq-eqb, lt-ltb, le-ltb, leb-true, leb-false}
+use Rattle.laws.specs.Logic.{when, both}
 use Rattle.laws.specs.Tests.{same_list}
-use Rattle.laws.proofs.Same.{same_lengths, same_on, same_stop, same_end}
+use Rattle.laws.proofs.Logic.{clash}
+use Rattle.laws.proofs.Computed.{same_list_lem}
 use Rattle.names.specs.Names.{lower, same_letters}
-use Rattle.names.specs.Inner.{name_in}
 
-lowered_at : (word : List ℕ) (i : ℕ) → get_or (map lower word) i 0 ≡ lower (get_or word i 0)
+taken : {A : Type 0} (t : Bool) (x y : A) → when t x y ≡ cond t x y
 unfolding when
-lowered_at word i = get_or-map lower word i 0
+taken true x y = refl
+taken false x y = refl
 
-module _ (row word : List ℕ) (whole : (length row ≡ 22) × (get_or row 18 0 ≤ 17)) where
-  name_length : length (map lower (name_in row)) ≡ get_or row 18 0
-  name_length =
-      let fits : get_or row 18 0 ≤ length (drop 1 row) = omega (arith, whole.0, whole.1, length-drop 1 row) in
-      length-map (name_in row) lower ∙ length-take-le (get_or row 18 0) (drop 1 row) fits
+up_to_by : (b n : ℕ) (t : Bool) → leb b n ≡ t → t ≡ ltb b (n + 1)
+up_to_by b n true is_leb = sym (lt-ltb b (n + 1) (omega (arith, leb-true b n is_leb)))
+up_to_by b n false is_leb = sym (le-ltb b (n + 1) (omega (arith, leb-false b n is_leb)))
 
-  name_letter : (i : ℕ) → i < get_or row 18 0 → get_or (map lower (name_in row)) i 0 ≡ lower (get_or row (1 + i) 0)
-  unfolding when
-  name_letter i inside = lowered_at (name_in row) i ∙ simp (get_or-take (get_or row 18 0) (drop 1 row) i 0 inside, get_or-drop 1 row i 0)
+up_to : (b n : ℕ) → leb b n ≡ ltb b (n + 1)
+up_to b n = up_to_by b n (leb b n) refl
 
-  pub letters_apart : (length word ≡ get_or row 18 0 → ⊥) → same_letters word (name_in row) ≡ false
-  letters_apart apart = same_lengths (map lower word) (map lower (name_in row)) (λ e. apart (sym (length-map word lower) ∙ e ∙ name_length))
+letter : (b : ℕ) → lower b ≡ to_ascii_lowercase b
+letter b = taken (ltb b 65) b _ ∙ ap (cond (ltb b 65) b) (taken (leb b 90) (b + 32) b ∙ ap (λ (t : Bool). cond t (b + 32) b) (up_to b 90))
 
-  -- what is left of both from a place on
-  module _ (i : ℕ) (same : length word ≡ get_or row 18 0) where
-    pub letters_end : length word ≤ i → same_list (drop i (map lower word)) (drop i (map lower (name_in row))) ≡ true
-    letters_end past = same_end (map lower word) (map lower (name_in row)) i (omega (arith, past, length-map word lower)) (omega (arith, past, same, name_length))
+letters : (word : List ℕ) → map lower word ≡ map to_ascii_lowercase word
+letters [] = refl
+letters (b ∷ word) = ap₂ (λ (x : ℕ) (xs : List ℕ). x ∷ xs) (letter b) (letters word)
 
-    module _ (inside : i < length word) {x y : ℕ} (of_word : x ≡ lower (get_or word i 0)) (of-name : y ≡ lower (get_or row (1 + i) 0)) where
-      in_word_lem : i < length (map lower word)
-      in_word_lem = omega (arith, inside, length-map word lower)
+same_itself : (xs : List ℕ) → same_list xs xs ≡ true
+unfolding same_list both
+same_itself [] = refl
+same_itself (x ∷ xs) = simp (eq-eqb x x refl, same_itself xs)
 
-      in_name : i < length (map lower (name_in row))
-      in_name = omega (arith, inside, same, name_length)
+-- a test of two lists is the one that there is
+tested : (r s : Bool) (xs ys : List ℕ) → same_list xs ys ≡ s → (IsTrue r ↔ (xs ≡ ys)) → r ≡ s
+tested true true xs ys is_same test = refl
+tested false false xs ys is_same test = refl
+tested true false xs ys is_same test = clash (sym (rw (← test.0 refl) (same_itself xs)) ∙ is_same)
+tested false true xs ys is_same test = test.1 (same_list_lem xs ys (rw is_same tt))
 
-      letter : get_or (map lower (name_in row)) i 0 ≡ y
-      letter = name_letter i (omega (arith, inside, same)) ∙ sym of-name
-
-      pub letters_on : x ≡ y → same_list (drop i (map lower word)) (drop i (map lower (name_in row))) ≡ same_list (drop (i + 1) (map lower word)) (drop (i + 1) (map lower (name_in row)))
-      letters_on e = same_on (map lower word) (map lower (name_in row)) i in_word_lem in_name (lowered_at word i ∙ sym of_word ∙ e ∙ sym letter)
-
-      pub letters_stop : (x ≡ y → ⊥) → same_list (drop i (map lower word)) (drop i (map lower (name_in row))) ≡ false
-      letters_stop differ = same_stop (map lower word) (map lower (name_in row)) i in_word_lem in_name (λ e. differ (of_word ∙ sym (lowered_at word i) ∙ e ∙ letter))
+pub same_as_tested : (r : Bool) (a b : List ℕ) → (IsTrue r ↔ (map to_ascii_lowercase a ≡ map to_ascii_lowercase b)) → r ≡ same_letters a b
+same_as_tested r a b test = tested r _ _ _ refl test ∙ sym (ap₂ same_list (letters a) (letters b))

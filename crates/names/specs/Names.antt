@@ -16,10 +16,7 @@ pub record Entry : Type 0 where
 abbrev entry : String → ℕ → ℕ → Entry
 entry name kind number = record { name = bytes name; kind = kind; number = number }
 
--- the kinds: nothing that is known; an end of the call; a line of a call text, by what stands behind its name
-abbrev pub nothing : ℕ
-nothing = 0
-
+-- the kinds: an end of the call; a line of a call text, by what stands behind its name
 abbrev pub end : ℕ
 end = 1
 
@@ -99,9 +96,6 @@ names =
     entry "digital-network" access 2 ∷
     []
 
-abbrev pub no_name : Entry
-no_name = record { name = []; kind = nothing; number = 0 }
-
 -- a letter in lower case; every other byte as it is
 abbrev pub lower : ℕ → ℕ
 lower b = when (ltb b 65) b (when (leb b 90) (b + 32) b)
@@ -113,7 +107,7 @@ same_letters a b = same_list (map lower a) (map lower b)
 abbrev pub meaning_of : Entry → Meaning
 meaning_of e = record { kind = e.kind; number = e.number }
 
--- what a word names by a list of names: what the first name with its letters does
+-- what a word names by a list of names: what the first name with its letters does, and nothing where there is none
 unfoldable pub named_by : List Entry → List ℕ → Option Meaning
 named_by [] word = None
 named_by (e ∷ rest) word = when (same_letters word e.name) (Some (meaning_of e)) (named_by rest word)

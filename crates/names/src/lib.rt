@@ -1,19 +1,17 @@
 // Names: the words for ends, functions, modulations and options, as document 01 and the header have them, and what each names.
 #![tactic(auto)]
 
-ghost use Rattle.std.specs.Prelude.{◌≡◌, ◌≤◌, length, get_or};
+ghost use Rattle.std.specs.Prelude.{◌≡◌};
 ghost use Rattle.printing.specs.Page.{typed};
-ghost use Rattle.names.specs.Names.{lower, same_letters, names, named, names_of};
-ghost use Rattle.names.specs.Inner.{table, name_in, shown};
+ghost use Rattle.names.specs.Names.{same_letters, names, named, named_by, names_of};
+ghost use Rattle.names.specs.Inner.{lent, entries, shown};
 
 use items::Item;
 use printing::Page;
 
-// What a word may name: nothing that is known, an end of the call, a line of a call text, a call function, an item or a PCM option by
-// document 01's name for it, an item by the other name that V.8 has for it, a part of an end's line, what an end wants, what its line
-// is, an option of the access group.
-pub const NOTHING: u8 = 0;
-
+// What a word may name: an end of the call, a line of a call text, a call function, an item or a PCM option by document 01's name for it,
+// an item by the other name that V.8 has for it, a part of an end's line, what an end wants, what its line is, an option of the access
+// group. Numbers and no enum, since `put_names` takes every u8, and writes nothing where no name is of that kind.
 pub const END: u8 = 1;
 
 pub const LINE: u8 = 2;
@@ -39,144 +37,99 @@ pub struct Meaning {
     pub number: u8,
 }
 
-// How many bytes the table has, and each of its rows; where in a row the length, the kind and the number stand.
-const TABLE: usize = 902;
+// Each name, the kind of what it names, and which of that kind.
+const NAMES: [(&[u8], u8, u8); 41] = [
+    (b"caller", END, 1),
+    (b"answerer", END, 2),
+    (b"call", LINE, 5),
+    (b"Te", LINE, 6),
+    (b"damaged", LINE, 7),
+    (b"blocks", LINE, 8),
+    (b"cadence", LINE, 9),
+    (b"answers", LINE, 10),
+    (b"H.324", FUNCTION, 1),
+    (b"textphone", FUNCTION, 2),
+    (b"videotex", FUNCTION, 3),
+    (b"fax-sent", FUNCTION, 4),
+    (b"fax-received", FUNCTION, 5),
+    (b"data", FUNCTION, 6),
+    (b"V.34", MODE, 1),
+    (b"V.34-half-duplex", MODE, 2),
+    (b"V.32bis", MODE, 3),
+    (b"V.22bis", MODE, 4),
+    (b"V.17", MODE, 5),
+    (b"V.29-half-duplex", MODE, 6),
+    (b"V.27ter", MODE, 7),
+    (b"V.26ter", MODE, 8),
+    (b"V.26bis", MODE, 9),
+    (b"V.23", MODE, 10),
+    (b"V.23-half-duplex", MODE, 11),
+    (b"V.21", MODE, 12),
+    (b"PCM-analogue", MODE, 13),
+    (b"PCM-digital", MODE, 14),
+    (b"V.91", MODE, 15),
+    (b"V.32", OTHER_MODE, 3),
+    (b"V.22", OTHER_MODE, 4),
+    (b"home", PART, 3),
+    (b"wants", PART, 4),
+    (b"sends", PART, 8),
+    (b"LAPM", WANTED, 0),
+    (b"access", WANTED, 1),
+    (b"cellular", QUALITY, 2),
+    (b"digital", QUALITY, 3),
+    (b"caller-cellular", ACCESS, 0),
+    (b"answerer-cellular", ACCESS, 1),
+    (b"digital-network", ACCESS, 2),
+];
 
-const ROW: usize = 22;
-
-const LENGTH: usize = 18;
-
-const KIND: usize = 19;
-
-const NUMBER: usize = 20;
-
-// A row for each name: a blank and the name in 18 columns, its length, the kind of what it names, and the number of that kind. A text is
-// proved in far less time than rows of a struct, and in one function that hands it out than in each that reads it.
-fn table() -> [u8; TABLE]
-    ensures { result ≡ table }
+// Whether a word is the name, in upper or in lower case.
+fn is_name(name: &[u8], word: &[u8]) -> bool
+    ensures { result ≡ same_letters word.now name.now }
 {
-    *b" caller           \x06\x01\x01
- answerer         \x08\x01\x02
- call             \x04\x02\x05
- Te               \x02\x02\x06
- damaged          \x07\x02\x07
- blocks           \x06\x02\x08
- cadence          \x07\x02\x09
- answers          \x07\x02\x0a
- H.324            \x05\x03\x01
- textphone        \x09\x03\x02
- videotex         \x08\x03\x03
- fax-sent         \x08\x03\x04
- fax-received     \x0c\x03\x05
- data             \x04\x03\x06
- V.34             \x04\x04\x01
- V.34-half-duplex \x10\x04\x02
- V.32bis          \x07\x04\x03
- V.22bis          \x07\x04\x04
- V.17             \x04\x04\x05
- V.29-half-duplex \x10\x04\x06
- V.27ter          \x07\x04\x07
- V.26ter          \x07\x04\x08
- V.26bis          \x07\x04\x09
- V.23             \x04\x04\x0a
- V.23-half-duplex \x10\x04\x0b
- V.21             \x04\x04\x0c
- PCM-analogue     \x0c\x04\x0d
- PCM-digital      \x0b\x04\x0e
- V.91             \x04\x04\x0f
- V.32             \x04\x05\x03
- V.22             \x04\x05\x04
- home             \x04\x06\x03
- wants            \x05\x06\x04
- sends            \x05\x06\x08
- LAPM             \x04\x07\x00
- access           \x06\x07\x01
- cellular         \x08\x08\x02
- digital          \x07\x08\x03
- caller-cellular  \x0f\x09\x00
- answerer-cellular\x11\x09\x01
- digital-network  \x0f\x09\x02
-"
+    word.eq_ignore_ascii_case(name)
 }
 
-// A letter in lower case; every other byte as it is.
-fn lower(b: u8) -> u8
-    ensures { result ≡ lower b }
+// What a word names by some names.
+fn named_by(names: &[(&[u8], u8, u8)], word: &[u8]) -> Option<Meaning>
+    ensures { result ≡ named_by (entries lent names.now) word.now }
 {
-    if b < b'A' {
-        return b;
-    }
-    if b <= b'Z' {
-        return b + 32;
-    }
-    b
-}
-
-// Whether a word has the letters of the name in a row, in upper or in lower case.
-fn is_name(row: &[u8], word: &[u8]) -> bool
-    requires row_len { length row.now ≡ 22 }
-    requires row_bound { get_or row.now 18 0 ≤ 17 }
-    ensures { result ≡ same_letters word.now (name_in row.now) }
-{
-    if word.len() != row[LENGTH] as usize {
-        return false;
-    }
-    let mut i: usize = 0;
-    while i < word.len() {
-        if lower(word[i]) != lower(row[1 + i]) {
-            return false;
+    for &(name, kind, number) in names {
+        if is_name(name, word) {
+            return Some(Meaning { kind, number });
         }
-        i += 1;
     }
-    true
+    None
 }
 
 // What a word names, where it is a name.
 pub fn named(word: &[u8]) -> Option<Meaning>
     ensures { result ≡ named word.now }
 {
-    let names = table();
-    let mut at: usize = 0;
-    while at < TABLE {
-        let end = at + ROW;
-        let row = &names[at..end];
-        if is_name(row, word) {
-            return Some(Meaning {
-                kind: row[KIND],
-                number: row[NUMBER],
-            });
-        }
-        at = end;
-    }
-    None
+    named_by(&NAMES, word)
 }
 
-// How many bytes of a row are written: those of the blank and the name, where it is of this kind and in the set.
-fn shown(row: &[u8], kind: u8, set: u16) -> usize
-    requires row_len { length row.now ≡ 22 }
-    requires row_bound { get_or row.now 18 0 ≤ 17 }
-    ensures { result ≡ shown row.now kind set }
+// Whether what is named is of this kind and in the set.
+fn shown(its_kind: u8, number: u8, kind: u8, set: u16) -> bool
+    ensures { result ≡ shown its_kind number kind set }
 {
-    if row[KIND] != kind {
-        return 0;
+    its_kind == kind && items::in_set(set, Item(number))
+}
+
+// Those of some names that are of a kind and in a set, a blank before each.
+fn put_shown(page: &mut Page<'_>, names: &[(&[u8], u8, u8)], kind: u8, set: u16)
+    ensures { page.new ≡ typed page.old (names_of kind set (entries lent names.now)) }
+{
+    for &(name, its_kind, number) in names {
+        if shown(its_kind, number, kind, set) {
+            page.put_text(b" ");
+            page.put_text(name);
+        }
     }
-    if items::in_set(set, Item(row[NUMBER])) {
-        return 1 + row[LENGTH] as usize;
-    }
-    0
 }
 
 // The names of a kind whose numbers are in a set, a blank before each.
 pub fn put_names(page: &mut Page<'_>, kind: u8, set: u16)
     ensures { page.new ≡ typed page.old (names_of kind set names) }
 {
-    let names = table();
-    let mut from: usize = 0;
-    while from < TABLE {
-        let end = from + ROW;
-        let row = &names[from..end];
-        let len = shown(row, kind, set);
-        page.put_text(&row[..len]);
-        from = end;
-    }
+    put_shown(page, &NAMES, kind, set);
 }

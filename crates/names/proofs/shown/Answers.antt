@@ -1,17 +1,13 @@
 -- `names::shown` meets its contract: both tests are those of the definition.
 -- Assumes nothing.
-use borrow.Author.Tests.{eq-eqb, ne_eqb}
-use Rattle.laws.specs.Logic.{when}
+use Rattle.laws.specs.Logic.{both}
+use Rattle.laws.proofs.Cases.{cases}
 use Rattle.names.proofs.shown.Goals as goal
 
-pub returns-then-row-kind : goal.returns-then-row-kind
-unfolding when
-returns-then-row-kind c = simp (ne_eqb _ _ c.if-row-kind.true)
+pub returns-then-its_kind-kind : goal.returns-then-its_kind-kind
+unfolding both
+returns-then-its_kind-kind c = search cases
 
-pub returns-then-in_set : goal.returns-then-in_set
-unfolding when
-returns-then-in_set c = simp (eq-eqb _ _ c.if-row-kind.false, ← c.in_set.ensures, c.if-in_set.true)
-
-pub returns : goal.returns
-unfolding when
-returns c = simp (eq-eqb _ _ c.if-row-kind.false, ← c.in_set.ensures, c.if-in_set.false)
+pub returns-else-its_kind-kind : goal.returns-else-its_kind-kind
+unfolding both
+returns-else-its_kind-kind c = search cases
