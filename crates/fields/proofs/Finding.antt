@@ -12,8 +12,7 @@ use Rattle.laws.specs.Logic.{when, both}
 use Rattle.laws.specs.Tests.{every}
 use Rattle.laws.proofs.Logic.{either_way, both_true, clash}
 use Rattle.refusals.specs.declared.Refusal.{Refusal}
-use Rattle.refusals.specs.declared.Wrote.{Wrote}
-use Rattle.refusals.specs.declared.Wrote.TheVariants.{Count, Refused}
+use Rattle.std.specs.Prelude.{Result, Ok, Err}
 use Rattle.refusals.specs.Refusals.{number}
 use Rattle.refusals.specs.Lent.{Meets}
 use Rattle.refusals.proofs.Outcomes.{meets_refused, meets_accepted, meets_put}
@@ -121,23 +120,23 @@ module _ (heard : List ℕ) where
     octets = field_octets (group_of heard field_tag)
 
     -- it cannot be read
-    pub read_refused : (r : Refusal) → refusal (number r) ≡ looked heard field_tag → Meets (field_read heard out) (Refused r) out
+    pub read_refused : (r : Refusal) → refusal (number r) ≡ looked heard field_tag → Meets (field_read heard out) (Err r) out
     read_refused r e = meets_refused octets out _ _ r (subst Tells (sym e) tells)
 
-    read_group_is : (group : List ℕ) → group_of heard field_tag ≡ group → fault ≡ 0 → (r : Wrote) (after : List ℕ) → Meets (group_read group out) r after → Meets (field_read heard out) r after
+    read_group_is : (group : List ℕ) → group_of heard field_tag ≡ group → fault ≡ 0 → (r : Result ℕ Refusal) (after : List ℕ) → Meets (group_read group out) r after → Meets (field_read heard out) r after
     read_group_is group e fine r after m = meets_accepted octets out _ _ r after fine (subst (λ (g : List ℕ). Meets (group_read g out) r after) (sym e) m)
 
     -- no group has the tag: nothing is read
-    nothing_read : Meets (group_read [] out) (Count 0) out
+    nothing_read : Meets (group_read [] out) (Ok 0) out
     unfolding unpacked joined_bits groups_of blocks_behind every both when
     nothing_read = meets_put [] out 0 out (omega arith) refl refl
 
-    pub read_nothing : nowhere ≡ looked heard field_tag → Meets (field_read heard out) (Count 0) out
-    read_nothing e = let told = nowhere_tells e in read_group_is [] told.1 told.0 (Count 0) out nothing_read
+    pub read_nothing : nowhere ≡ looked heard field_tag → Meets (field_read heard out) (Ok 0) out
+    read_nothing e = let told = nowhere_tells e in read_group_is [] told.1 told.0 (Ok 0) out nothing_read
 
     -- a group has it
     module _ (p : ℕ) (e : place p ≡ looked heard field_tag) where
-      pub read_found : (r : Wrote) (after : List ℕ) → Meets (group_read (part_at heard p) out) r after → Meets (field_read heard out) r after
+      pub read_found : (r : Result ℕ Refusal) (after : List ℕ) → Meets (group_read (part_at heard p) out) r after → Meets (field_read heard out) r after
       read_found r after m = let told = place_tells p e in read_group_is (part_at heard p) told.1 told.0 r after m
 
   module _ (p : ℕ) (e : place p ≡ looked heard field_tag) where

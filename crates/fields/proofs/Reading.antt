@@ -5,42 +5,38 @@ use Prim.Native.Nat.{ℕ, suc, ◌<◌, ◌≤◌, ◌+◌, ◌-◌}
 use native.Mathlib.Omega.{arith}
 use native.Mathlib.Numerals.{add-one}
 use mathlib.Core.Path.{◌≡◌, refl, sym, ap, ap₂, ◌∙◌}
-use mathlib.Core.Bool.{Bool, true, false}
+use mathlib.Core.Bool.{Bool, true, false, cond}
 use mathlib.Core.List.{List, [], ◌∷◌}
 use borrow.Author.Tests.{lt-ltb, le-ltb, le-leb, lt-leb, eq-eqb, ne_eqb}
-use lib.Dec.{ltb}
+use lib.Dec.{ltb, eqb}
 use lib.ListN.{length, take, drop, get_or, length-drop}
 use lib.Seq.{drop-cons, drop-drop, get_or-drop}
+use Rattle.std.specs.List.{prefix_len}
 use Rattle.laws.specs.Logic.{when, both}
 use Rattle.laws.specs.Tests.{every}
 use Rattle.laws.proofs.Logic.{either_way, both_neither}
+use Rattle.std.specs.Prelude.{Result, Ok, Err}
+use Rattle.refusals.specs.declared.Refusal.{Refusal}
+use Rattle.std.specs.Result.{is_ok}
+use Rattle.refusals.specs.Refusals.{number}
 use Rattle.refusals.proofs.Numbers.{named, named_number}
 use Rattle.fields.specs.declared.Block.{Block}
-use Rattle.fields.specs.declared.Walk.{Walk}
-use Rattle.fields.specs.declared.Walk.TheVariants.{Blocks, Refused}
+use Rattle.fields.specs.declared.Part.{Part}
+use Rattle.fields.specs.declared.Part.TheVariants.{Whole, Country, Provider, Rest}
 use Rattle.fields.specs.Blocks.{blocks_behind, blocks_of, length_of, full, country_size, provider_size, codes_size, fits, Walked, blocks, refusal, says_walk, walked, no_block, block_in, block_at, place_of, block_of}
-use Rattle.fields.specs.Inner.{counted}
+use Rattle.fields.specs.Inner.{counted, span_of}
 use Rattle.fields.proofs.Blocks.{blocks_first, fits_parts, laid, block_fits, block_none, whole_size, every_first}
 
--- octets of 255, one at a time
-module _ (octets : List ℕ) (end i : ℕ) where
-  pub full_on : i < end → end ≤ length octets → get_or octets i 0 ≡ 255 → full (take (end - i) (drop i octets)) ≡ suc (full (take (end - (i + 1)) (drop (i + 1) octets)))
-  unfolding full when
-  full_on before inside is_full =
-      let here : i < length octets = omega arith in
-      let one_more : end - i ≡ suc (end - suc i) = omega arith in
-      simp (one_more, drop-cons octets i 0 here, eq-eqb _ _ is_full, add-one)
+-- the octets of 255 in front are counted as the library counts what passes a test
+full_by : (test : Bool) (n m : ℕ) → n ≡ m → when test (suc n) 0 ≡ cond test (1 + m) 0
+unfolding when
+full_by true n m same = omega arith
+full_by false n m same = refl
 
-  pub full_stops : i < end → end ≤ length octets → (get_or octets i 0 ≡ 255 → ⊥) → full (take (end - i) (drop i octets)) ≡ 0
-  unfolding full when
-  full_stops before inside is-other =
-      let here : i < length octets = omega arith in
-      let one_more : end - i ≡ suc (end - suc i) = omega arith in
-      simp (one_more, drop-cons octets i 0 here, ne_eqb _ _ is-other)
-
-  pub full_end : end ≤ i → full (take (end - i) (drop i octets)) ≡ 0
-  unfolding full
-  full_end past = let none : end - i ≡ 0 = omega arith in simp none
+pub full_prefix : (octets : List ℕ) → full octets ≡ prefix_len (λ b. eqb b 255) octets
+unfolding full
+full_prefix [] = refl
+full_prefix (b ∷ octets) = full_by (eqb b 255) (full octets) _ (full_prefix octets)
 
 -- a block that does not fit, by the first test that fails
 module _ (block : List ℕ) where
@@ -148,6 +144,12 @@ pub record Within (octets : List ℕ) (block : Block) : Type 0 where
   pub provider : block.provider.place + block.provider.size ≤ length octets
   pub rest : block.rest.place + block.rest.size ≤ length octets
 
+pub part_within : (octets : List ℕ) (block : Block) → Within octets block → (part : Part) → (span_of block part).place + (span_of block part).size ≤ length octets
+part_within octets block within Whole = within.whole
+part_within octets block within Country = within.country
+part_within octets block within Provider = within.provider
+part_within octets block within Rest = within.rest
+
 none_within : (octets : List ℕ) → Within octets no_block
 none_within octets = omega arith
 
@@ -183,32 +185,32 @@ module _ (octets : List ℕ) (number : ℕ) where
   found_within = either_way (Within octets) (both (every fits (blocks_of octets)) (ltb number (length (blocks_of octets)))) (block_at octets (place_of octets number)) no_block (λ _. block_within octets (place_of octets number)) (λ _. none_within octets)
 
 -- what the walk's answer says of the blocks
-abbrev count_in : Walked → ℕ
-count_in (blocks n) = suc n
-count_in (refusal n) = 0
-
 pub walked_count : (octets : List ℕ) (n : ℕ) → blocks n ≡ walked octets → (every fits (blocks_of octets) ≡ true) × (n ≡ length (blocks_of octets))
 unfolding walked
 walked_count octets n =
     either_way (λ (w : Walked). blocks n ≡ w → (every fits (blocks_of octets) ≡ true) × (n ≡ length (blocks_of octets))) (every fits (blocks_of octets)) (blocks (length (blocks_of octets))) (refusal 14)
-    (λ all_fit says. (all_fit, omega (arith, ap count_in says)))
-    (λ _ says. absurd (let z : ⊥ = omega (arith, ap count_in says) in z))
+    (λ all_fit says. (all_fit, cc))
+    (λ _ says. absurd (cc))
 
-pub walked_unfit : (octets : List ℕ) (n : ℕ) → refusal n ≡ walked octets → every fits (blocks_of octets) ≡ false
+pub walked_unfit : (octets : List ℕ) (n : ℕ) → refusal n ≡ walked octets → (every fits (blocks_of octets) ≡ false) × (n ≡ 14)
 unfolding walked
 walked_unfit octets n =
-    either_way (λ (w : Walked). refusal n ≡ w → every fits (blocks_of octets) ≡ false) (every fits (blocks_of octets)) (blocks (length (blocks_of octets))) (refusal 14)
-    (λ _ says. absurd (let z : ⊥ = omega (arith, ap count_in says) in z))
-    (λ unfit _. unfit)
+    either_way (λ (w : Walked). refusal n ≡ w → (every fits (blocks_of octets) ≡ false) × (n ≡ 14)) (every fits (blocks_of octets)) (blocks (length (blocks_of octets))) (refusal 14)
+    (λ _ says. absurd (cc))
+    (λ unfit says. (unfit, cc))
+
+pub walked_well : (octets : List ℕ) (w : Result ℕ Refusal) → says_walk w ≡ walked octets → is_ok w ≡ every fits (blocks_of octets)
+walked_well octets (Ok n) says = sym (walked_count octets n says).0
+walked_well octets (Err r) says = sym (walked_unfit octets (number r) says).0
 
 -- a walk is known by what it says
-abbrev saying : Walked → Walk
-saying (blocks n) = Blocks n
-saying (refusal n) = Refused (named n)
+abbrev saying : Walked → Result ℕ Refusal
+saying (blocks n) = Ok n
+saying (refusal n) = Err (named n)
 
-said : (w : Walk) → saying (says_walk w) ≡ w
-said (Blocks n) = refl
-said (Refused r) = ap Refused (named_number r)
+said : (w : Result ℕ Refusal) → saying (says_walk w) ≡ w
+said (Ok n) = refl
+said (Err r) = ap Err (named_number r)
 
-pub says_walk_injective : (v w : Walk) → says_walk v ≡ says_walk w → v ≡ w
+pub says_walk_injective : (v w : Result ℕ Refusal) → says_walk v ≡ says_walk w → v ≡ w
 says_walk_injective v w same = sym (said v) ∙ ap saying same ∙ said w

@@ -1,13 +1,12 @@
 -- Document 02, Req 02: the blocks of a field. They know nothing of menus.
-use Rattle.std.specs.Prelude.{ℕ, zero, suc, ◌+◌, ◌-◌, Bool, List, [], ◌∷◌, ltb, leb, eqb, length, take, drop, get_or}
+use Rattle.std.specs.Prelude.{ℕ, zero, suc, ◌+◌, ◌-◌, Bool, List, [], ◌∷◌, ltb, leb, eqb, length, take, drop, get_or, Result, Ok, Err}
 use Rattle.laws.specs.Logic.{when, both}
 use Rattle.laws.specs.Joined.{joined}
 use Rattle.laws.specs.Tests.{every}
+use Rattle.refusals.specs.declared.Refusal.{Refusal}
 use Rattle.refusals.specs.Refusals.{number}
 use Rattle.fields.specs.declared.Span.{Span}
 use Rattle.fields.specs.declared.Block.{Block}
-use Rattle.fields.specs.declared.Walk.{Walk}
-use Rattle.fields.specs.declared.Walk.TheVariants.{Blocks, Refused}
 
 -- "The octets are blocks one behind the other. A block starts with a length that counts all that follows it": each with its length octet, behind
 -- so many octets of a block that is under way; the last has what there is
@@ -56,9 +55,9 @@ pub data Walked : Type 0 where
   refusal : ℕ → Walked
 
 -- what an answer says on paper
-abbrev pub says_walk : Walk → Walked
-says_walk (Blocks n) = blocks n
-says_walk (Refused r) = refusal (number r)
+abbrev pub says_walk : Result ℕ Refusal → Walked
+says_walk (Ok n) = blocks n
+says_walk (Err r) = refusal (number r)
 
 unfoldable pub walked : List ℕ → Walked
 walked octets = when (every fits (blocks_of octets)) (blocks (length (blocks_of octets))) (refusal 14)

@@ -6,6 +6,10 @@ use Rattle.refusals.specs.Refusals.{before}
 use Rattle.refusals.specs.Lent.{WriteOutcome, room_fault, put}
 use Rattle.fields.specs.declared.Unpacked.{Unpacked}
 use Rattle.fields.specs.declared.Held.{Held}
+use Rattle.fields.specs.declared.Span.{Span}
+use Rattle.fields.specs.declared.Block.{Block}
+use Rattle.fields.specs.declared.Part.{Part}
+use Rattle.fields.specs.declared.Part.TheVariants.{Whole, Country, Provider, Rest}
 use Rattle.fields.specs.Packing.{unpacked, octets_in, left_over}
 use Rattle.fields.specs.Blocks.{Walked, blocks, refusal, blocks_fault}
 use Rattle.fields.specs.Field.{field_octets, packing_fault}
@@ -46,3 +50,10 @@ abbrev pub group_read : List ℕ → List ℕ → WriteOutcome
 group_read group out =
     let octets = field_octets group in
     put (before (packing_fault group) (before (blocks_fault octets) (room_fault octets out))) octets out
+
+-- a part of a block by its name
+abbrev pub span_of : Block → Part → Span
+span_of block Whole = block.whole
+span_of block Country = block.country
+span_of block Provider = block.provider
+span_of block Rest = block.rest

@@ -2,19 +2,19 @@
 // other; the field of a heard menu, read, and our own, written.
 #![tactic(auto)]
 
-ghost use Rattle.std.specs.Prelude.{◌≡◌, true, ◌+◌, ◌-◌, ◌<◌, ◌≤◌, ◌^◌, length, take, drop};
+ghost use Rattle.std.specs.Prelude.{◌≡◌, true, ◌+◌, ◌<◌, ◌≤◌, ◌^◌, eqb, length, drop};
+ghost use Rattle.std.specs.List.{prefix_len};
 ghost use Rattle.laws.specs.Front.{front};
 ghost use Rattle.laws.specs.Logic.{when};
 ghost use Rattle.laws.specs.Tests.{every};
 ghost use Rattle.refusals.specs.Lent.{room_fault, put, Meets};
 ghost use Rattle.menus.specs.Groups.{onward};
 ghost use Rattle.fields.specs.Packing.{five_of, extension_of, octets_in, left_over, extensions_for, packed};
-ghost use Rattle.fields.specs.Blocks.{blocks_of, length_of, full, country_size, fits, says_walk, walked, no_block, block_at, place_of, block_of, part_in};
+ghost use Rattle.fields.specs.Blocks.{blocks_of, length_of, country_size, fits, says_walk, walked, no_block, block_at, place_of, block_of, part_in};
 ghost use Rattle.fields.specs.Field.{is_packed, field_read, field_of};
-ghost use Rattle.fields.specs.Inner.{counted, Unpacks, held_with, Writes, blocks_put, group_read};
+ghost use Rattle.fields.specs.Inner.{counted, span_of, Unpacks, held_with, Writes, blocks_put, group_read};
 
-use menus::Found;
-use refusals::{Refusal, Wrote};
+use refusals::Refusal;
 
 // The tag of a field.
 pub const FIELD: u8 = 15;
@@ -54,11 +54,9 @@ fn unpack(extensions: &[u8], out: &mut [u8]) -> Unpacked
     let mut held: u16 = 0;
     let mut weight: u16 = 1;
     let mut j: usize = 0;
-    let mut i: usize = 0;
-    while i < extensions.len() {
-        held += weight * five_of(extensions[i]) as u16;
+    for e in extensions {
+        held += weight * five_of(*e) as u16;
         weight *= 32;
-        i += 1;
         if 256 <= weight {
             out[j] = (held % 256) as u8;
             held /= 256;
@@ -118,23 +116,21 @@ fn pack(octets: &[u8], out: &mut [u8]) -> usize
         weight: 1,
         taken: 0,
     };
-    let mut k: usize = 0;
-    while k < size {
+    for k in 0..size {
         let more = hold(octets, held);
         out[k] = extension_of((more.bits % 32) as u8);
         held = Held {
             bits: more.bits / 32,
             weight: more.weight / 32,
-            taken: more.taken,
+            ..more
         };
-        k += 1;
     }
     size
 }
 
 // A part of the lent octets: where it begins, and how many octets it has.
 #[repr(C)]
-#[derive(Clone, Copy)]
+#[derive(Clone, Copy, Debug, PartialEq, Eq)]
 pub struct Span {
     pub place: usize,
     pub size: usize,
@@ -142,7 +138,7 @@ pub struct Span {
 
 // A block: whole, with its length; its country code, its provider code, and the rest.
 #[repr(C)]
-#[derive(Clone, Copy)]
+#[derive(Clone, Copy, Debug, PartialEq, Eq)]
 pub struct Block {
     pub whole: Span,
     pub country: Span,
@@ -150,27 +146,33 @@ pub struct Block {
     pub rest: Span,
 }
 
-// What the walk over the blocks gives.
+// The parts of a block by name.
 #[derive(Clone, Copy)]
-pub enum Walk {
-    Blocks(usize),
-    Refused(Refusal),
+enum Part {
+    Whole,
+    Country,
+    Provider,
+    Rest,
 }
 
-// How many octets of 255 stand between two places, from the first on.
-fn full_octets(octets: &[u8], from: usize, end: usize) -> usize
-    requires from_le_end { from ≤ end }
-    requires end_in_bounds { end ≤ length octets.now }
-    ensures { (result ≡ full (take (end - from) (drop from octets.now))) × (result ≤ end - from) }
-{
-    let mut i = from;
-    while i < end {
-        if octets[i] != FULL {
-            return i - from;
+impl Block {
+    fn span_of(self, part: Part) -> Span
+        ensures { result ≡ span_of self part }
+    {
+        match part {
+            Part::Whole => self.whole,
+            Part::Country => self.country,
+            Part::Provider => self.provider,
+            Part::Rest => self.rest,
         }
-        i += 1;
     }
-    i - from
+}
+
+// How many octets of 255 stand in front.
+fn full_octets(octets: &[u8]) -> usize
+    ensures { (result ≡ prefix_len (λ b. eqb b 255) octets.now) × (result ≤ length octets.now) }
+{
+    octets.iter().take_while(|b| **b == FULL).count()
 }
 
 // What stands for no block: parts without octets.
@@ -193,7 +195,7 @@ fn country_size(octets: &[u8], place: usize, size: usize) -> usize
     ensures { (result ≡ country_size (drop place octets.now)) × (result ≤ size + 1) }
 {
     let from = place + 1;
-    full_octets(octets, from, from + size) + 1
+    full_octets(&octets[from..from + size]) + 1
 }
 
 // The block at a place, by its codes, where all that its length counts is there.
@@ -248,23 +250,23 @@ pub fn block_at(octets: &[u8], place: usize) -> Block
 }
 
 // The walk over the blocks, behind so many: the first one, and then the same with what remains.
-fn walk_on(octets: &[u8], before: usize) -> Walk
+fn walk_on(octets: &[u8], before: usize) -> Result<usize, Refusal>
     requires { before + length octets.now < 2 ^ 64 }
     ensures { says_walk result ≡ counted before (walked octets.now) }
 {
     if octets.len() == 0 {
-        return Walk::Blocks(before);
+        return Ok(before);
     }
     let first = block_at(octets, 0);
     let size = first.whole.size;
     if size == 0 {
-        return Walk::Refused(Refusal::BadBlock);
+        return Err(Refusal::BadBlock);
     }
     walk_on(&octets[size..], before + 1)
 }
 
 // How many blocks the octets are, or the refusal where one of them does not fit.
-pub fn walk_blocks(octets: &[u8]) -> Walk
+pub fn walk_blocks(octets: &[u8]) -> Result<usize, Refusal>
     ensures { says_walk result ≡ walked octets.now }
 {
     walk_on(octets, 0)
@@ -277,11 +279,9 @@ fn place_of(octets: &[u8], number: usize) -> usize
     ensures { result ≡ place_of octets.now number }
 {
     let mut place: usize = 0;
-    let mut k: usize = 0;
-    while k < number {
+    for _ in 0..number {
         let block = block_at(octets, place);
         place += block.whole.size;
-        k += 1;
     }
     place
 }
@@ -290,8 +290,7 @@ fn place_of(octets: &[u8], number: usize) -> usize
 pub fn find_block(octets: &[u8], number: usize) -> Block
     ensures { result ≡ block_of octets.now number }
 {
-    let walked = walk_blocks(octets);
-    let Walk::Blocks(count) = walked else {
+    let Ok(count) = walk_blocks(octets) else {
         return no_block();
     };
     if count <= number {
@@ -311,13 +310,20 @@ fn part_in(octets: &[u8], part: Span) -> &[u8]
     &octets[from..end]
 }
 
+// A part of the block of a number.
+fn part_of(octets: &[u8], number: usize, part: Part) -> &[u8]
+    ensures result_value { result.now ≡ part_in octets.now (span_of (block_of octets.now number) part) }
+    ensures ref_ptr_value { result.ref_ptr ≡ onward octets.entry.ref_ptr (span_of (block_of octets.now number) part).place }
+{
+    part_in(octets, find_block(octets, number).span_of(part))
+}
+
 // The block of a number, whole.
 pub fn whole(octets: &[u8], number: usize) -> &[u8]
     ensures result_value { result.now ≡ part_in octets.now (block_of octets.now number).whole }
     ensures ref_ptr_value { result.ref_ptr ≡ onward octets.entry.ref_ptr (block_of octets.now number).whole.place }
 {
-    let found = find_block(octets, number);
-    part_in(octets, found.whole)
+    part_of(octets, number, Part::Whole)
 }
 
 // Its country code.
@@ -325,8 +331,7 @@ pub fn country(octets: &[u8], number: usize) -> &[u8]
     ensures result_value { result.now ≡ part_in octets.now (block_of octets.now number).country }
     ensures ref_ptr_value { result.ref_ptr ≡ onward octets.entry.ref_ptr (block_of octets.now number).country.place }
 {
-    let found = find_block(octets, number);
-    part_in(octets, found.country)
+    part_of(octets, number, Part::Country)
 }
 
 // Its provider code.
@@ -334,8 +339,7 @@ pub fn provider(octets: &[u8], number: usize) -> &[u8]
     ensures result_value { result.now ≡ part_in octets.now (block_of octets.now number).provider }
     ensures ref_ptr_value { result.ref_ptr ≡ onward octets.entry.ref_ptr (block_of octets.now number).provider.place }
 {
-    let found = find_block(octets, number);
-    part_in(octets, found.provider)
+    part_of(octets, number, Part::Provider)
 }
 
 // And the rest of it.
@@ -343,19 +347,14 @@ pub fn rest(octets: &[u8], number: usize) -> &[u8]
     ensures result_value { result.now ≡ part_in octets.now (block_of octets.now number).rest }
     ensures ref_ptr_value { result.ref_ptr ≡ onward octets.entry.ref_ptr (block_of octets.now number).rest.place }
 {
-    let found = find_block(octets, number);
-    part_in(octets, found.rest)
+    part_of(octets, number, Part::Rest)
 }
 
 // Whether the octets are blocks, each of which fits.
 pub fn are_blocks(octets: &[u8]) -> bool
     ensures { result ≡ every fits (blocks_of octets.now) }
 {
-    let walked = walk_blocks(octets);
-    match walked {
-        Walk::Blocks(_) => true,
-        Walk::Refused(_) => false,
-    }
+    walk_blocks(octets).is_ok()
 }
 
 // How many octets the field of these octets has.
@@ -369,31 +368,29 @@ pub fn field_size(octets: &[u8]) -> usize
 }
 
 // The field that says these octets, where there is room for it; nothing where there are none.
-pub fn put_field(octets: &[u8], out: &mut [u8]) -> Wrote
+pub fn put_field(octets: &[u8], out: &mut [u8]) -> Result<usize, Refusal>
     ensures { Meets (put (room_fault (field_of octets.now) out.old) (field_of octets.now) out.old) result out.new }
 {
     let size = field_size(octets);
     if out.len() < size {
-        return Wrote::Refused(Refusal::ShortBuffer);
+        return Err(Refusal::ShortBuffer);
     }
     if 0 < size {
         out[0] = octets::category_octet(FIELD, 0);
         pack(octets, &mut out[1..]);
     }
-    Wrote::Count(size)
+    Ok(size)
 }
 
-// Octets to the front of what is lent. The place modulo their number at most keeps the compiler from making a call of memcpy of it, which a
-// library that stands alone has not.
+// Octets to the front of what is lent. No `copy_from_slice`: that is a call of memcpy, which a library that stands alone has not, and the place modulo
+// their number at most keeps the compiler from making one of this loop.
 fn copy(octets: &[u8], out: &mut [u8])
     requires octets_len_bound { length octets.now ≤ 40 }
     requires octets_in_bounds { length octets.now ≤ length out.old }
     ensures { out.new ≡ front octets.now out.old }
 {
-    let mut i: usize = 0;
-    while i < octets.len() {
+    for i in 0..octets.len() {
         out[i] = octets[i % MOST_OCTETS];
-        i += 1;
     }
 }
 
@@ -408,43 +405,38 @@ fn is_packed(group: &[u8], left: u16) -> bool
 }
 
 // Octets that are blocks, where there is room for them.
-fn put_blocks(octets: &[u8], out: &mut [u8]) -> Wrote
+fn put_blocks(octets: &[u8], out: &mut [u8]) -> Result<usize, Refusal>
     requires { length octets.now ≤ 40 }
     ensures { Meets (blocks_put octets.now out.old) result out.new }
 {
-    if are_blocks(octets) {
-        if out.len() < octets.len() {
-            return Wrote::Refused(Refusal::ShortBuffer);
-        }
-        copy(octets, out);
-        return Wrote::Count(octets.len());
+    walk_blocks(octets)?;
+    if out.len() < octets.len() {
+        return Err(Refusal::ShortBuffer);
     }
-    Wrote::Refused(Refusal::BadBlock)
+    copy(octets, out);
+    Ok(octets.len())
 }
 
 // The octets of a group, unpacked beside what is lent, since a refusal writes nothing there.
-fn read_group(group: &[u8], out: &mut [u8]) -> Wrote
+fn read_group(group: &[u8], out: &mut [u8]) -> Result<usize, Refusal>
     requires group_nonzero { 0 < length group.now }
     requires group_len_bound { length group.now ≤ 64 }
     ensures { Meets (group_read group.now out.old) result out.new }
 {
     let mut octets = [0u8; MOST_OCTETS];
     let unpacked = unpack(&group[1..], &mut octets);
-    let count = unpacked.count;
-    if is_packed(group, unpacked.left) {
-        return put_blocks(&octets[0..count], out);
+    if !is_packed(group, unpacked.left) {
+        return Err(Refusal::BadPacking);
     }
-    Wrote::Refused(Refusal::BadPacking)
+    put_blocks(&octets[..unpacked.count], out)
 }
 
 // Reads the field of a heard menu into what is lent, and answers how many octets it has.
-pub fn read_field(octets: &[u8], out: &mut [u8]) -> Wrote
+pub fn read_field(octets: &[u8], out: &mut [u8]) -> Result<usize, Refusal>
     ensures { Meets (field_read octets.now out.old) result out.new }
 {
-    let found = menus::find(octets, FIELD);
-    match found {
-        Found::Refused(r) => Wrote::Refused(r),
-        Found::Nothing => Wrote::Count(0),
-        Found::At(place) => read_group(menus::part(octets, place), out),
+    match menus::find(octets, FIELD)? {
+        Some(place) => read_group(menus::part(octets, place), out),
+        None => Ok(0),
     }
 }

@@ -21,8 +21,9 @@ use Rattle.items.specs.declared.ItemPlace.{ItemPlace}
 use Rattle.items.specs.Items.{place_of, is_mode, bit_of, has_item, in_set, modulation}
 use Rattle.items.proofs.Places.{mode_is_item}
 use Rattle.items.proofs.Sets.{none_in, set_has}
-use Rattle.menus.specs.declared.AskedItem.{AskedItem}
-use Rattle.menus.specs.declared.AskedItem.TheVariants.{Answer, Refused}
+use Rattle.refusals.specs.declared.Refusal.{Refusal}
+use Rattle.std.specs.Prelude.{Result, Ok, Err}
+use Rattle.menus.specs.declared.Asked as declared
 use Rattle.menus.specs.Groups.{opens_group, front_part, group_of}
 use Rattle.menus.specs.Offer.{offers, offer_of, menu_read}
 use Rattle.menus.specs.Offer as reading
@@ -240,13 +241,13 @@ unfolding asked when
 asked_no_mode octets item none = simp none
 
 -- no two answers say the same
-abbrev asking : Asked → AskedItem
-asking (answer offered looked) = Answer offered looked
-asking (refusal n) = Refused (named n)
+abbrev asking : Asked → Result declared.Asked Refusal
+asking (answer offered looked) = Ok (record { offered = offered; looked = looked })
+asking (refusal n) = Err (named n)
 
-asking_says : (a : AskedItem) → asking (says_asked a) ≡ a
-asking_says (Answer offered looked) = refl
-asking_says (Refused r) = ap Refused (named_number r)
+asking_says : (a : Result declared.Asked Refusal) → asking (says_asked a) ≡ a
+asking_says (Ok a) = refl
+asking_says (Err r) = ap Err (named_number r)
 
-pub says_asked_injective : (a b : AskedItem) → says_asked a ≡ says_asked b → a ≡ b
+pub says_asked_injective : (a b : Result declared.Asked Refusal) → says_asked a ≡ says_asked b → a ≡ b
 says_asked_injective a b e = sym (asking_says a) ∙ ap asking e ∙ asking_says b

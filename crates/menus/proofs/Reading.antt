@@ -1,7 +1,6 @@
 -- Reading a menu, by whether its octets can be read: the answer and the octets tell the same; and that answers are known by what they say.
 -- Assumes nothing.
-use Prim.Native.Nat.{ℕ, suc}
-use native.Mathlib.Omega.{arith}
+use Prim.Native.Nat.{ℕ}
 use mathlib.Core.Path.{◌≡◌, refl, sym, ap, ◌∙◌}
 use mathlib.Core.List.{List}
 use borrow.Author.Tests.{eq-eqb, ne_eqb, eqb-true}
@@ -12,23 +11,11 @@ use Rattle.refusals.specs.declared.Refusal.{Refusal}
 use Rattle.refusals.specs.Refusals.{number}
 use Rattle.octets.specs.Lists.{list_fault}
 use Rattle.refusals.proofs.Numbers.{named, named_number, number_some}
-use Rattle.menus.specs.declared.Found.{Found}
-use Rattle.menus.specs.declared.Found.TheVariants as found
+use Rattle.std.specs.Prelude.{Option, Some, None, Result, Ok, Err}
 use Rattle.menus.specs.declared.Offer.{Offer}
-use Rattle.menus.specs.declared.ReadMenu.{ReadMenu}
-use Rattle.menus.specs.declared.ReadMenu.TheVariants.{Offers, Refused}
 use Rattle.menus.specs.Groups.{Looked, place, nowhere, says_found}
 use Rattle.menus.specs.Groups as groups
 use Rattle.menus.specs.Offer.{Read, offers, refusal, offer_of, says_read, menu_read}
-
--- what a read menu carries
-abbrev refused_with : Read → ℕ
-refused_with (offers o) = 0
-refused_with (refusal n) = suc n
-
-abbrev offered_or : Offer → Read → Offer
-offered_or none (offers o) = o
-offered_or none (refusal n) = none
 
 module _ (octets : List ℕ) where
   pub menu_read_lem : list_fault Reading octets ≡ 0 → menu_read octets ≡ offers (offer_of octets)
@@ -44,37 +31,37 @@ module _ (octets : List ℕ) where
   unfolding menu_read
   read_refused r =
       either_way (λ (m : Read). refusal (number r) ≡ m → number r ≡ list_fault Reading octets) _ _ _
-      (λ _ e. absurd (omega (arith, ap refused_with e)))
-      (λ _ e. omega (arith, ap refused_with e))
+      (λ _ e. absurd (cc))
+      (λ _ e. cc)
 
   pub read_offered : (offer : Offer) → offers offer ≡ menu_read octets → (list_fault Reading octets ≡ 0) × (offer ≡ offer_of octets)
   unfolding menu_read
   read_offered offer =
       either_way (λ (m : Read). offers offer ≡ m → (list_fault Reading octets ≡ 0) × (offer ≡ offer_of octets)) _ _ _
-      (λ t e. (eqb-true _ _ t, ap (offered_or offer) e))
-      (λ _ e. absurd (omega (arith, ap refused_with e)))
+      (λ t e. (eqb-true _ _ t, cc))
+      (λ _ e. absurd (cc))
 
 -- no two answers say the same
-abbrev finding : Looked → Found
-finding (place n) = found.At n
-finding nowhere = found.Nothing
-finding (groups.refusal n) = found.Refused (named n)
+abbrev finding : Looked → Result (Option ℕ) Refusal
+finding (place n) = Ok (Some n)
+finding nowhere = Ok None
+finding (groups.refusal n) = Err (named n)
 
-finding_says : (f : Found) → finding (says_found f) ≡ f
-finding_says (found.At n) = refl
-finding_says found.Nothing = refl
-finding_says (found.Refused r) = ap found.Refused (named_number r)
+finding_says : (f : Result (Option ℕ) Refusal) → finding (says_found f) ≡ f
+finding_says (Ok (Some n)) = refl
+finding_says (Ok None) = refl
+finding_says (Err r) = ap Err (named_number r)
 
-pub says_found_injective : (f g : Found) → says_found f ≡ says_found g → f ≡ g
+pub says_found_injective : (f g : Result (Option ℕ) Refusal) → says_found f ≡ says_found g → f ≡ g
 says_found_injective f g e = sym (finding_says f) ∙ ap finding e ∙ finding_says g
 
-abbrev reading : Read → ReadMenu
-reading (offers o) = Offers o
-reading (refusal n) = Refused (named n)
+abbrev reading : Read → Result Offer Refusal
+reading (offers o) = Ok o
+reading (refusal n) = Err (named n)
 
-reading_says : (m : ReadMenu) → reading (says_read m) ≡ m
-reading_says (Offers o) = refl
-reading_says (Refused r) = ap Refused (named_number r)
+reading_says : (m : Result Offer Refusal) → reading (says_read m) ≡ m
+reading_says (Ok o) = refl
+reading_says (Err r) = ap Err (named_number r)
 
-pub says_read_injective : (m n : ReadMenu) → says_read m ≡ says_read n → m ≡ n
+pub says_read_injective : (m n : Result Offer Refusal) → says_read m ≡ says_read n → m ≡ n
 says_read_injective m n e = sym (reading_says m) ∙ ap reading e ∙ reading_says n

@@ -1,12 +1,12 @@
 -- Document 02, Req 06: one mode, asked for without the whole menu read.
-use Rattle.std.specs.Prelude.{ℕ, zero, suc, Bool, List, [], ◌∷◌, ltb, length, take}
+use Rattle.std.specs.Prelude.{ℕ, zero, suc, Bool, List, [], ◌∷◌, ltb, length, take, Result, Ok, Err}
 use Rattle.laws.specs.Logic.{when}
 use Rattle.refusals.specs.Refusals.{number}
 use Rattle.octets.specs.Octets.{category}
 use Rattle.octets.specs.Lists.{most_octets}
 use Rattle.items.specs.Items.{place_of, is_mode, in_set, modulation}
-use Rattle.menus.specs.declared.AskedItem.{AskedItem}
-use Rattle.menus.specs.declared.AskedItem.TheVariants.{Answer, Refused}
+use Rattle.refusals.specs.declared.Refusal.{Refusal}
+use Rattle.menus.specs.declared.Asked as declared
 use Rattle.menus.specs.Groups.{opens_group}
 use Rattle.menus.specs.Offer.{Read, offers, menu_read}
 use Rattle.menus.specs.Offer as reading
@@ -17,9 +17,9 @@ pub data Asked : Type 0 where
   refusal : ℕ → Asked
 
 -- what an answer says on paper
-abbrev pub says_asked : AskedItem → Asked
-says_asked (Answer offered looked) = answer offered looked
-says_asked (Refused r) = refusal (number r)
+abbrev pub says_asked : Result declared.Asked Refusal → Asked
+says_asked (Ok a) = answer a.offered a.looked
+says_asked (Err r) = refusal (number r)
 
 -- behind the group's category octet, with so many octets to the one that holds the item: up to that one, "or at the next category octet if the
 -- group is short"

@@ -1,12 +1,11 @@
 -- Document 01, 'Octets of the menu': groups, looking for a tag, the part of a place.
-use Rattle.std.specs.Prelude.{ℕ, ◌+◌, Bool, List, [], ◌∷◌, ltb, eqb, length, take, drop, get_or}
+use Rattle.std.specs.Prelude.{ℕ, ◌+◌, Bool, List, [], ◌∷◌, ltb, eqb, length, take, drop, get_or, Option, Some, None, Result, Ok, Err}
 use Rattle.laws.specs.Logic.{when, both}
 use Rattle.octets.specs.declared.Purpose.TheVariants.{Reading}
 use Rattle.refusals.specs.Refusals.{number}
 use Rattle.octets.specs.Octets.{category, tag, options}
 use Rattle.octets.specs.Lists.{list_fault, until_category}
-use Rattle.menus.specs.declared.Found.{Found}
-use Rattle.menus.specs.declared.Found.TheVariants.{At, Nothing, Refused}
+use Rattle.refusals.specs.declared.Refusal.{Refusal}
 
 -- what looking gives: a place, nothing, or a refusal's number
 pub data Looked : Type 0 where
@@ -15,10 +14,10 @@ pub data Looked : Type 0 where
   refusal : ℕ → Looked
 
 -- what an answer says on paper
-abbrev pub says_found : Found → Looked
-says_found (At n) = place n
-says_found Nothing = nowhere
-says_found (Refused r) = refusal (number r)
+abbrev pub says_found : Result (Option ℕ) Refusal → Looked
+says_found (Ok (Some n)) = place n
+says_found (Ok None) = nowhere
+says_found (Err r) = refusal (number r)
 
 -- a category octet with this tag
 abbrev pub opens_group : ℕ → ℕ → Bool

@@ -5,15 +5,7 @@ use Rattle.octets.specs.Octets.{category, tag, bad}
 use Rattle.octets.specs.Lists.{opens, most_octets}
 use Rattle.items.specs.declared.ItemPlace.{ItemPlace}
 use Rattle.items.specs.Items.{bit_of, modulation}
-use Rattle.menus.specs.declared.Spot.{Spot}
-use Rattle.menus.specs.declared.Spot.TheVariants.{At, Nowhere}
-use Rattle.menus.specs.Groups.{Looked, place, nowhere}
 use Rattle.menus.specs.Asking.{Asked, answer, refusal}
-
--- what looking in a message that can be read gives: a place, or nothing
-abbrev pub says_spot : Spot → Looked
-says_spot (At n) = place n
-says_spot Nowhere = nowhere
 
 -- what is asked within the modulation group: b is the octet looked at last, so many before the one that holds the item
 unfoldable pub decided : ℕ → ℕ → ℕ → ℕ → List ℕ → Asked

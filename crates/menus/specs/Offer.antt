@@ -1,12 +1,11 @@
 -- Document 01, 'Octets of the menu': what a menu offers.
-use Rattle.std.specs.Prelude.{ℕ, Bool, List, ltb, eqb, length}
+use Rattle.std.specs.Prelude.{ℕ, Bool, List, ltb, eqb, length, Result, Ok, Err}
 use Rattle.laws.specs.Logic.{when}
 use Rattle.octets.specs.declared.Purpose.TheVariants.{Reading}
 use Rattle.refusals.specs.Refusals.{number}
 use Rattle.octets.specs.Lists.{list_fault}
 use Rattle.menus.specs.declared.Offer.{Offer}
-use Rattle.menus.specs.declared.ReadMenu.{ReadMenu}
-use Rattle.menus.specs.declared.ReadMenu.TheVariants.{Offers, Refused}
+use Rattle.refusals.specs.declared.Refusal.{Refusal}
 use Rattle.items.specs.Items.{items_of, modulation}
 use Rattle.menus.specs.Groups.{group_of, options_in}
 
@@ -49,9 +48,9 @@ pub data Read : Type 0 where
   refusal : ℕ → Read
 
 -- what an answer says on paper
-abbrev pub says_read : ReadMenu → Read
-says_read (Offers o) = offers o
-says_read (Refused r) = refusal (number r)
+abbrev pub says_read : Result Offer Refusal → Read
+says_read (Ok o) = offers o
+says_read (Err r) = refusal (number r)
 
 -- "Looking refuses with 4, 5 and 3 as reading does"
 unfoldable pub menu_read : List ℕ → Read

@@ -1,17 +1,18 @@
 // Menus: looking for a group, its part of the message, what a menu offers, one item asked for alone, and which PCM options of two ends pair.
 #![tactic(auto)]
 
-ghost use Rattle.std.specs.Prelude.{◌≡◌, ◌+◌, ◌≤◌, length, drop};
-ghost use Rattle.octets.specs.Lists.{until_category};
-ghost use Rattle.menus.specs.Groups.{says_found, opens_group, first_group, looked, part_at, onward, part_start, group_of, options_in};
+ghost use Rattle.std.specs.Prelude.{◌≡◌, false, ◌+◌, ◌<◌, ◌≤◌, length, drop, not, position};
+ghost use Rattle.std.specs.List.{prefix_len};
+ghost use Rattle.octets.specs.Octets.{category};
+ghost use Rattle.menus.specs.Groups.{says_found, opens_group, looked, part_at, onward, part_start, group_of, options_in};
 ghost use Rattle.menus.specs.Offer.{pcm_counted, offer_of, says_read, menu_read};
 ghost use Rattle.menus.specs.Pcm.{paired};
-ghost use Rattle.menus.specs.Asking.{says_asked, asked};
-ghost use Rattle.menus.specs.Inner.{says_spot, decided, walked, asked_at};
+ghost use Rattle.menus.specs.Asking.{answer, says_asked, asked};
+ghost use Rattle.menus.specs.Inner.{decided, walked, asked_at};
 
-use items::{Item, ItemPlace, ModePlace};
+use items::{Item, ItemPlace};
 use octets::Purpose;
-use refusals::{Refusal, Verdict};
+use refusals::Refusal;
 
 // The tags of the groups, beside octets::CALL_FUNCTION and items::MODULATION.
 pub const PCM: u8 = 7;
@@ -23,25 +24,10 @@ pub const ACCESS: u8 = 13;
 // The option of the protocol group that says LAPM.
 pub const LAPM: u8 = 1;
 
-// Where a group stands in a message that can be read.
-#[derive(Clone, Copy)]
-enum Spot {
-    At(usize),
-    Nowhere,
-}
-
-// What looking for a tag finds.
-#[derive(Clone, Copy)]
-pub enum Found {
-    At(usize),
-    Nothing,
-    Refused(Refusal),
-}
-
 // What a menu offers: the call function, the items (bit i for item i), PCM as far as it counts, LAPM, and the access group with its
 // options.
 #[repr(C)]
-#[derive(Clone, Copy)]
+#[derive(Clone, Copy, Debug, PartialEq, Eq)]
 pub struct Offer {
     pub function: u8,
     pub items: u16,
@@ -51,18 +37,11 @@ pub struct Offer {
     pub access_options: u8,
 }
 
-// What reading a menu gives.
-#[derive(Clone, Copy)]
-pub enum ReadMenu {
-    Offers(Offer),
-    Refused(Refusal),
-}
-
 // What asking for one item gives: whether the menu offers it, and how many octets were looked at.
-#[derive(Clone, Copy)]
-pub enum AskedItem {
-    Answer(bool, usize),
-    Refused(Refusal),
+#[derive(Clone, Copy, Debug, PartialEq, Eq)]
+pub struct Asked {
+    pub offered: bool,
+    pub looked: usize,
 }
 
 // A category octet with this tag.
@@ -73,52 +52,28 @@ fn opens_group(b: u8, tag: u8) -> bool
 }
 
 // The first group of a tag, where the octets are readable.
-fn first_group(octets: &[u8], tag: u8) -> Spot
-    ensures { says_spot result ≡ first_group tag 0 octets.now }
+fn first_group(octets: &[u8], tag: u8) -> Option<usize>
+    ensures { result ≡ position (opens_group tag) octets.now }
 {
-    let mut i: usize = 0;
-    while i < octets.len() {
-        if opens_group(octets[i], tag) {
-            return Spot::At(i);
-        }
-        i += 1;
-    }
-    Spot::Nowhere
-}
-
-fn found_at(spot: Spot) -> Found
-    ensures { says_found result ≡ says_spot spot }
-{
-    match spot {
-        Spot::At(i) => Found::At(i),
-        Spot::Nowhere => Found::Nothing,
-    }
+    octets.iter().position(|b| opens_group(*b, tag))
 }
 
 // Looks for a tag: the place of its first group, nothing, or why the message cannot be read.
-pub fn find(octets: &[u8], tag: u8) -> Found
+pub fn find(octets: &[u8], tag: u8) -> Result<Option<usize>, Refusal>
     ensures { says_found result ≡ looked octets.now tag }
 {
-    let verdict = octets::test(Purpose::Reading, octets);
-    match verdict {
-        Verdict::Refused(r) => Found::Refused(r),
-        Verdict::Accepted => found_at(first_group(octets, tag)),
-    }
+    octets::test(Purpose::Reading, octets)?;
+    Ok(first_group(octets, tag))
 }
 
-// Where the group that starts before `from` ends.
-fn group_end(octets: &[u8], from: usize) -> usize
-    requires { from ≤ length octets.now }
-    ensures { (result ≡ from + until_category (drop from octets.now)) × (result ≤ length octets.now) }
+// How many octets stand before the next category octet: the extension octets of the group before them.
+fn extensions_in(octets: &[u8]) -> usize
+    ensures { (result ≡ prefix_len (λ b. not (category b)) octets.now) × (result ≤ length octets.now) }
 {
-    let mut i = from;
-    while i < octets.len() {
-        if octets::group_ends(octets, i) {
-            return i;
-        }
-        i += 1;
-    }
-    i
+    octets
+        .iter()
+        .take_while(|b| !octets::is_category(**b))
+        .count()
 }
 
 // The part of a place: the category octet there and its extension octets, of the lent message itself; elsewhere the empty part.
@@ -127,7 +82,7 @@ pub fn part(octets: &[u8], place: usize) -> &[u8]
     ensures ref_ptr_value { result.ref_ptr ≡ onward octets.entry.ref_ptr (part_start octets.now place) }
 {
     if place < octets.len() && octets::is_category(octets[place]) {
-        let end = group_end(octets, place + 1);
+        let end = place + 1 + extensions_in(&octets[place + 1..]);
         return &octets[place..end];
     }
     &octets[0..0]
@@ -147,11 +102,10 @@ pub fn options_in(group: &[u8]) -> u8
 fn group_of(octets: &[u8], tag: u8) -> &[u8]
     ensures { result.now ≡ group_of octets.now tag }
 {
-    let spot = first_group(octets, tag);
-    let Spot::At(place) = spot else {
-        return &octets[0..0];
-    };
-    part(octets, place)
+    match first_group(octets, tag) {
+        Some(place) => part(octets, place),
+        None => &octets[0..0],
+    }
 }
 
 // How many octets the first group of a tag has, 0 where there is none.
@@ -186,83 +140,85 @@ fn read_offer(octets: &[u8]) -> Offer
 }
 
 // Reads a menu.
-pub fn read(octets: &[u8]) -> ReadMenu
+pub fn read(octets: &[u8]) -> Result<Offer, Refusal>
     ensures { says_read result ≡ menu_read octets.now }
 {
-    let verdict = octets::test(Purpose::Reading, octets);
-    match verdict {
-        Verdict::Refused(r) => ReadMenu::Refused(r),
-        Verdict::Accepted => ReadMenu::Offers(read_offer(octets)),
-    }
+    octets::test(Purpose::Reading, octets)?;
+    Ok(read_offer(octets))
+}
+
+// The answer of a menu that does not have the item.
+fn not_offered(looked: usize) -> Result<Asked, Refusal>
+    ensures { says_asked result ≡ answer false looked }
+{
+    Ok(Asked {
+        offered: false,
+        looked,
+    })
 }
 
 // Within the modulation group, behind its category octet: the octet that holds the item decides, or the next category octet before it.
-fn decide(octets: &[u8], opening: u8, from: usize, place: ItemPlace) -> AskedItem
+fn decide(octets: &[u8], opening: u8, from: usize, place: ItemPlace) -> Result<Asked, Refusal>
     ensures { says_asked result ≡ decided place.bit.0 place.octet from opening (drop from octets.now) }
 {
     let mut b = opening;
     let mut looked = from;
-    let mut ahead = place.octet;
-    while 0 < ahead {
+    for _ in 0..place.octet {
         if octets.len() <= looked {
-            return AskedItem::Answer(false, looked);
+            return not_offered(looked);
         }
         b = octets[looked];
         looked += 1;
         if octets::is_category(b) {
-            return AskedItem::Answer(false, looked);
+            return not_offered(looked);
         }
         if octets::is_bad(b) {
-            return AskedItem::Refused(Refusal::BadOctet);
+            return Err(Refusal::BadOctet);
         }
-        ahead -= 1;
     }
-    AskedItem::Answer(items::has_bit(b, place.bit), looked)
+    Ok(Asked {
+        offered: items::has_bit(b, place.bit),
+        looked,
+    })
 }
 
 // Behind the call function, up to the first modulation group. The kind of an octet is asked first: of an extension octet two bits more are
 // looked at, and of a category octet its tag.
-fn walk(octets: &[u8], place: ItemPlace) -> AskedItem
+fn walk(octets: &[u8], place: ItemPlace) -> Result<Asked, Refusal>
+    requires { 0 < length octets.now }
     ensures { says_asked result ≡ walked place 1 (drop 1 octets.now) }
 {
-    let mut looked: usize = 1;
-    while looked < octets.len() {
+    for looked in 1..octets.len() {
         let b = octets[looked];
-        looked += 1;
         if octets::is_category(b) {
             if octets::tag_of(b) == items::MODULATION {
-                return decide(octets, b, looked, place);
+                return decide(octets, b, looked + 1, place);
             }
-        } else {
-            if octets::is_bad(b) {
-                return AskedItem::Refused(Refusal::BadOctet);
-            }
+        } else if octets::is_bad(b) {
+            return Err(Refusal::BadOctet);
         }
     }
-    AskedItem::Answer(false, looked)
+    not_offered(octets.len())
 }
 
 // The number of octets and the first one, before the walk.
-fn ask_at(octets: &[u8], place: ItemPlace) -> AskedItem
+fn ask_at(octets: &[u8], place: ItemPlace) -> Result<Asked, Refusal>
     ensures { says_asked result ≡ asked_at place octets.now }
 {
     if octets::MOST_OCTETS < octets.len() {
-        return AskedItem::Refused(Refusal::TooManyOctets);
+        return Err(Refusal::TooManyOctets);
     }
     if 0 < octets.len() && opens_group(octets[0], octets::CALL_FUNCTION) {
         return walk(octets, place);
     }
-    AskedItem::Refused(Refusal::NoCallFunction)
+    Err(Refusal::NoCallFunction)
 }
 
 // Whether a menu offers one item, without the whole menu read: each octet is read once, and none behind the one that decides.
-pub fn asks(octets: &[u8], item: Item) -> AskedItem
+pub fn asks(octets: &[u8], item: Item) -> Result<Asked, Refusal>
     ensures { says_asked result ≡ asked octets.now item.0 }
 {
-    let mode = items::mode_place(item);
-    let ModePlace::At(place) = mode else {
-        return AskedItem::Refused(Refusal::WrongEvent);
-    };
+    let place = items::mode_place(item).ok_or(Refusal::WrongEvent)?;
     ask_at(octets, place)
 }
 

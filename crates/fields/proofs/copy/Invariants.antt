@@ -6,7 +6,4 @@ use Rattle.laws.proofs.Pasted.{Pasted}
 use Rattle.fields.proofs.copy.Given as goal
 
 abbrev pub invariant-loop-i : goal.invariant-loop-i
-invariant-loop-i l = (l.i ≤ length l.octets) × Pasted l.initial.out l.octets l.i l.out
-
-abbrev pub decreases-loop-i : goal.decreases-loop-i
-decreases-loop-i l = length l.octets - l.i
+invariant-loop-i l = Pasted l.initial.out l.octets l.i l.out

@@ -6,8 +6,5 @@ use mathlib.Core.Path.{◌≡◌}
 use Rattle.fields.specs.Blocks.{place_of}
 use Rattle.fields.proofs.place_of.Given as goal
 
-abbrev pub invariant-loop-k : goal.invariant-loop-k
-invariant-loop-k l = (l.k ≤ l.number) × (l.place ≡ place_of l.octets l.k)
-
-abbrev pub decreases-loop-k : goal.decreases-loop-k
-decreases-loop-k l = l.number - l.k
+abbrev pub invariant-loop : goal.invariant-loop
+invariant-loop l = l.place ≡ place_of l.octets l.counter

@@ -1,5 +1,6 @@
 -- `fields::read_group` meets its contract: the packing decides; what is tested and put then are the octets that were unpacked.
 -- Assumes nothing.
+use Rattle.std.proofs.Common.{rules, true, false}
 use native.Mathlib.Omega.{arith}
 use Prim.Native.Nat.{ℕ, ◌-◌}
 use mathlib.Core.Path.{◌≡◌, sym, ap, subst, ◌∙◌}
@@ -27,27 +28,29 @@ behind unpacked_at = rest_of unpacked_at.args.group.now 1
 left_is : (unpacked_at : After-unpack-unpacked) → unpacked_at.unpack-unpacked.result.left ≡ left_over (drop 1 unpacked_at.args.group.now)
 left_is unpacked_at = unpacked_at.unpack-unpacked.ensures.left ∙ ap left_over (behind unpacked_at)
 
-octets_are : (unpacked_at : After-unpack-unpacked) → take (unpacked_at.unpack-unpacked.result.count - 0) unpacked_at.unpack-unpacked.new.out ≡ field_octets unpacked_at.args.group.now
+octets_are : (unpacked_at : After-unpack-unpacked) → take unpacked_at.unpack-unpacked.result.count unpacked_at.unpack-unpacked.new.out ≡ field_octets unpacked_at.args.group.now
 octets_are unpacked_at =
     let group = unpacked_at.args.group.now in
     let count = unpacked_at.unpack-unpacked.result.count in
     let extensions = take (length group - 1) (drop 1 group) in
-    ap (take (count - 0)) unpacked_at.unpack-unpacked.ensures.buffer
-    ∙ take_at (unpacked extensions) _ (count - 0) (omega (arith, unpacked_length extensions, unpacked_at.unpack-unpacked.ensures.count))
+    ap (take count) unpacked_at.unpack-unpacked.ensures.buffer
+    ∙ take_at (unpacked extensions) _ count (omega (arith, unpacked_length extensions, unpacked_at.unpack-unpacked.ensures.count))
     ∙ ap unpacked (behind unpacked_at)
 
 pub is_packed-requires : goal.is_packed-requires
 is_packed-requires c =
     record { left_value = left_is (goal.at.is_packed-requires c).After-unpack-unpacked; group_nonzero = c.requires.group_nonzero; group_len_bound = c.requires.group_len_bound }
 
-pub returns-then-is_packed : goal.returns-then-is_packed
-returns-then-is_packed c =
-    let args = c.args in
-    let octets = field_octets args.group.now in
-    meets_accepted octets args.out.now _ _ _ _ (packed_well args.group.now (sym c.is_packed.ensures ∙ c.if-is_packed.true))
-    (subst (λ (l : List ℕ). Meets (put (before (blocks_fault l) (room_fault l args.out.now)) l args.out.now) c.put_blocks.result c.put_blocks.new.out) (octets_are (goal.at.returns-then-is_packed c).After-unpack-unpacked) c.put_blocks.ensures)
+pub returns-then-not-is_packed : goal.returns-then-not-is_packed
+returns-then-not-is_packed c =
+    let group = c.args.group.now in
+    let badly : c.is_packed.result ≡ false = search rules in
+    meets_refused (field_octets group) c.args.out.now _ _ _ (packed_badly group (sym c.is_packed.ensures ∙ badly))
 
 pub returns : goal.returns
 returns c =
     let args = c.args in
-    meets_refused (field_octets args.group.now) args.out.now _ _ _ (packed_badly args.group.now (sym c.is_packed.ensures ∙ c.if-is_packed.false))
+    let octets = field_octets args.group.now in
+    let well : c.is_packed.result ≡ true = search rules in
+    meets_accepted octets args.out.now _ _ _ _ (packed_well args.group.now (sym c.is_packed.ensures ∙ well))
+    (subst (λ (l : List ℕ). Meets (put (before (blocks_fault l) (room_fault l args.out.now)) l args.out.now) c.put_blocks.result c.put_blocks.new.out) (octets_are (goal.at.returns c).After-unpack-unpacked) c.put_blocks.ensures)

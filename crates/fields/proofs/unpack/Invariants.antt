@@ -9,9 +9,6 @@ use Rattle.fields.proofs.Streams.{Streams}
 use Rattle.laws.proofs.Pasted.{Pasted}
 use Rattle.fields.proofs.unpack.Given as goal
 
-abbrev pub invariant-loop-i : goal.invariant-loop-i
-invariant-loop-i l =
-    (l.i ≤ length l.extensions) × (5 * l.i < 8 * l.j + 8) × Streams 5 8 (map five_of l.extensions) l.held l.weight l.i l.j × Pasted l.initial.out (unpacked l.extensions) l.j l.out
-
-abbrev pub decreases-loop-i : goal.decreases-loop-i
-decreases-loop-i l = length l.extensions - l.i
+abbrev pub invariant-loop-e : goal.invariant-loop-e
+invariant-loop-e l =
+    (5 * l.e-index < 8 * l.j + 8) × Streams 5 8 (map five_of l.extensions) l.held l.weight l.e-index l.j × Pasted l.initial.out (unpacked l.extensions) l.j l.out

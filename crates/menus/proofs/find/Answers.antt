@@ -1,16 +1,17 @@
--- `menus::find` meets its contract: the verdict of the test decides, and where it accepts the first group of the tag does.
+-- `menus::find` meets its contract: the test decides, and where it accepts the first group of the tag does.
 -- Assumes nothing.
-use mathlib.Core.Path.{sym, ap, ◌∙◌}
-use Rattle.refusals.specs.Refusals.{fault}
-use Rattle.menus.proofs.Looking.{looked_refused, looked_read}
+use Rattle.std.proofs.Common.{ℕ, Option, Ok, sym, ap, ◌∙◌}
+use Rattle.std.proofs.lemmas.Result.{err_from_is_err_and}
+use Rattle.menus.specs.Groups.{says_found}
+use Rattle.menus.proofs.Looking.{first_position, looked_refused, looked_read}
 use Rattle.menus.proofs.find.Goals as goal
 
-pub returns-in-Refused : goal.returns-in-Refused
-returns-in-Refused c =
-    let args = c.args in
-    looked_refused args.octets.now args.tag c.in-Refused.r (ap fault (sym c.in-Refused.is) ∙ c.test-verdict.ensures)
+pub returns-in_err-test : goal.returns-in_err-test
+returns-in_err-test c =
+    let p = err_from_is_err_and c.from_residual.result c.from_residual.ensures.1 in
+    rw (p.1, p.2) (looked_refused c.args.octets.now c.args.tag c.in_err-test.field-0.0 c.in_err-test.ensures)
 
-pub returns-in-Accepted : goal.returns-in-Accepted
-returns-in-Accepted c =
+pub returns : goal.returns
+returns c =
     let args = c.args in
-    c.found_at.ensures ∙ c.first_group.ensures ∙ sym (looked_read args.octets.now args.tag (sym c.test-verdict.ensures ∙ ap fault c.in-Accepted.is))
+    ap (λ (found : Option ℕ). says_found (Ok found)) c.first_group.ensures ∙ first_position args.tag args.octets.now ∙ sym (looked_read args.octets.now args.tag (sym c.in_ok-test.ensures))

@@ -1,12 +1,16 @@
 -- `menus::group_of` meets its contract: where the tag is found its part is handed back, otherwise the empty part.
 -- Assumes nothing.
+use Rattle.std.proofs.Common.{refl}
 use Rattle.menus.specs.Groups.{group_of}
+use Rattle.menus.proofs.Looking.{first_position}
 use Rattle.menus.proofs.group_of.Goals as goal
 
-pub returns-in_default : goal.returns-in_default
+pub returns-in-Some : goal.returns-in-Some
 unfolding group_of
-returns-in_default c = simp (← c.first_group-spot.ensures, c.in_default.is)
+returns-in-Some c =
+    let octets = c.args.octets.now in
+    rw (← first_position c.args.tag octets) (rw (← c.in-Some.ensures) c.part.ensures.result_value)
 
-pub returns : goal.returns
+pub returns-in-None : goal.returns-in-None
 unfolding group_of
-returns c = simp (← c.first_group-spot.ensures, c.in-At.is) c.part.ensures.result_value
+returns-in-None c = rw (← first_position c.args.tag c.args.octets.now) (rw (← c.in-None.ensures) refl)
