@@ -1,6 +1,6 @@
 -- `fields::are_blocks` meets its contract: the walk counts exactly where every block fits.
 -- Assumes nothing.
-use Rattle.std.proofs.Common.{◌≡◌, sym, ap, ◌∙◌}
+use Rattle.std.proofs.Common.{◌∙◌}
 use Rattle.fields.proofs.Reading.{walked_well}
 use Rattle.fields.proofs.are_blocks.Goals as goal
 

@@ -1,7 +1,5 @@
 -- `fields::copy` meets its contract. Invariant: i octets stand at the front of what was lent.
 -- Assumes nothing.
-use Prim.Native.Nat.{◌-◌, ◌≤◌}
-use lib.ListN.{length}
 use Rattle.laws.proofs.Pasted.{Pasted}
 use Rattle.fields.proofs.copy.Given as goal
 

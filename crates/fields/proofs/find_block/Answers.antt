@@ -1,6 +1,6 @@
 -- `fields::find_block` meets its contract: the walk decides, and where every block fits the number does.
 -- Assumes nothing.
-use Rattle.std.proofs.Common.{◌≡◌, sym, ap, ◌∙◌, arith, true, length}
+use Rattle.std.proofs.Common.{◌≡◌, ap, ◌∙◌, arith, true, length}
 use Rattle.laws.specs.Tests.{every}
 use Rattle.fields.specs.Blocks.{blocks_of, fits, block_at}
 use Rattle.fields.proofs.Reading.{walked_count, walked_unfit, found_none, found_past, found_there}

@@ -1,7 +1,7 @@
 -- `fields::pack` meets its contract. Invariant: k extension octets stand at the front of what was lent; where it is not all of them, fewer than
 -- eight bits are held.
 -- Assumes nothing.
-use Rattle.std.proofs.Common.{◌≡◌, ◌<◌, arith, sym, ap, ◌∙◌, length}
+use Rattle.std.proofs.Common.{◌<◌, arith, sym, ap, ◌∙◌, length}
 use Rattle.fields.specs.Packing.{extension_of, extensions_for, packed}
 use Rattle.fields.proofs.Packing.{packed_length}
 use Rattle.fields.proofs.Packs.{next_five, packed_at}

@@ -2,7 +2,7 @@
 -- eight bits are held.
 -- Assumes nothing.
 use lib.ListN.{length}
-use Prim.Native.Nat.{◌+◌, ◌-◌, ◌*◌, ◌<◌, ◌≤◌}
+use Prim.Native.Nat.{◌+◌, ◌*◌, ◌<◌}
 use Rattle.fields.specs.Packing.{packed, extensions_for}
 use Rattle.fields.proofs.Streams.{Streams}
 use Rattle.laws.proofs.Pasted.{Pasted}

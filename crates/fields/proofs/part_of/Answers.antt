@@ -1,8 +1,6 @@
 -- `fields::part_of` meets its contract: every part of the block that is found lies in the octets.
 -- Assumes nothing.
-use Rattle.std.proofs.Common.{◌≡◌, ap, ◌∙◌}
 use Rattle.fields.proofs.Reading.{found_within}
-use Rattle.fields.specs.Inner.{span_of}
 use Rattle.fields.proofs.Reading.{part_within}
 use Rattle.fields.proofs.part_of.Goals as goal
 

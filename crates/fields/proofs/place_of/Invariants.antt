@@ -1,7 +1,6 @@
 -- `fields::place_of` meets its contract. Invariant: `place` is where block k begins, so the block that is read there is block k, and the next one
 -- begins behind it.
 -- Assumes nothing.
-use Prim.Native.Nat.{◌≤◌, ◌-◌}
 use mathlib.Core.Path.{◌≡◌}
 use Rattle.fields.specs.Blocks.{place_of}
 use Rattle.fields.proofs.place_of.Given as goal

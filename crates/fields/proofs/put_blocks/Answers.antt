@@ -1,6 +1,6 @@
 -- `fields::put_blocks` meets its contract: the blocks decide, then the room.
 -- Assumes nothing.
-use Rattle.std.proofs.Common.{◌≡◌, refl, sym, ◌∙◌}
+use Rattle.std.proofs.Common.{refl, ◌∙◌}
 use Rattle.std.proofs.lemmas.Result.{err_from_is_err_and}
 use Rattle.refusals.proofs.Outcomes.{meets_short, meets_put, meets_refused, meets_accepted}
 use Rattle.fields.proofs.Field.{blocks_fit, blocks_unfit}

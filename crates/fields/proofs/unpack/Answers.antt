@@ -1,11 +1,11 @@
 -- `fields::unpack` meets its contract. Invariant: so many extension octets were taken in and j octets given out, which stand at the front of what was
 -- lent; fewer than eight bits are held.
 -- Assumes nothing.
-use Rattle.std.proofs.Common.{◌≡◌, ℕ, ◌+◌, ◌*◌, ◌/◌, ◌^◌, ◌<◌, ◌≤◌, arith, rules, sym, ap, ◌∙◌, refl, map, length, get_or}
+use Rattle.std.proofs.Common.{◌≡◌, ℕ, ◌+◌, ◌*◌, ◌/◌, ◌^◌, ◌<◌, ◌≤◌, arith, rules, sym, ap, ◌∙◌, map, length, get_or}
 use lib.ListN.{length-map, get_or-map}
 use Rattle.fields.specs.Packing.{five_of, octets_in, option_bits, unpacked}
 use Rattle.fields.proofs.Packing.{unpacked_length, unpacked_at}
-use Rattle.fields.proofs.Streams.{Streams, begins, pull, emit, emitted, few, last}
+use Rattle.fields.proofs.Streams.{Streams, pull, emit, emitted, few, last}
 use Rattle.laws.proofs.Pasted.{pasted_more, pasted_all}
 use Rattle.fields.proofs.unpack.Goals.{After-five_of, At-loop-e, then-weight-ge256, else-weight-ge256}
 use Rattle.fields.proofs.unpack.Goals as goal
@@ -39,13 +39,13 @@ loop-e-preserved c =
     let j = c.loop-e.j in
     elim c.if-weight-ge256.branch [
       | then-weight-ge256 w ↦
-        let there = counts after w.if-weight-ge256.true in
-        let octet = emitted 5 8 _ _ _ _ _ (taken after) w.if-weight-ge256.true ∙ sym (unpacked_at extensions j there) in
-        rw (w.out-is, w.held-is, w.weight-is, w.j-is)
-        (omega (arith, c.loop-e.invariant.0), given after w.if-weight-ge256.true, pasted_more c.args.out.now (unpacked extensions) j _ c.loop-e.invariant.2 _ octet (omega (arith, there)) (omega (arith, there, unpacked_length extensions)))
+          let there = counts after w.if-weight-ge256.true in
+          let octet = emitted 5 8 _ _ _ _ _ (taken after) w.if-weight-ge256.true ∙ sym (unpacked_at extensions j there) in
+          rw (w.out-is, w.held-is, w.weight-is, w.j-is)
+          (omega (arith, c.loop-e.invariant.0), given after w.if-weight-ge256.true, pasted_more c.args.out.now (unpacked extensions) j _ c.loop-e.invariant.2 _ octet (omega (arith, there)) (omega (arith, there, unpacked_length extensions)))
       | else-weight-ge256 w ↦
-        rw (w.out-is, w.held-is, w.weight-is, w.j-is)
-        (omega (arith, few 5 8 _ _ _ _ _ (taken after) w.if-weight-ge256.false), taken after, c.loop-e.invariant.2)
+          rw (w.out-is, w.held-is, w.weight-is, w.j-is)
+          (omega (arith, few 5 8 _ _ _ _ _ (taken after) w.if-weight-ge256.false), taken after, c.loop-e.invariant.2)
     ]
 
 pub returns : goal.returns

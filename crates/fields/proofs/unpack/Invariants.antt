@@ -1,9 +1,8 @@
 -- `fields::unpack` meets its contract. Invariant: i extension octets were taken in and j octets given out, which stand at the front of what was
 -- lent; fewer than eight bits are held.
 -- Assumes nothing.
-use Prim.Native.Nat.{◌+◌, ◌-◌, ◌*◌, ◌<◌, ◌≤◌}
+use Prim.Native.Nat.{◌+◌, ◌*◌, ◌<◌}
 use mathlib.Core.List.{map}
-use lib.ListN.{length}
 use Rattle.fields.specs.Packing.{five_of, unpacked}
 use Rattle.fields.proofs.Streams.{Streams}
 use Rattle.laws.proofs.Pasted.{Pasted}
