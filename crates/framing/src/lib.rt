@@ -36,7 +36,7 @@ const ENDING_ONES: u32 = 20;
 const LAST_OF_ENDING: u32 = 28;
 
 // What a bit asks for, its act: nothing, that a CI or a menu starts, that an octet is stored, that the message is reported, that CJ is
-// told, or a refusal, 16 above its number.
+// told, or a refusal, 16 above its number. A number and no enum: `refusal_in`, and `act_on` and `tell` of listening, take every u32.
 pub const NOTHING: u32 = 0;
 
 pub const START_CI: u32 = 1;
@@ -61,6 +61,9 @@ pub const BAD_RECORD: u32 = 26;
 
 const CUT_SHORT: u32 = 29;
 
+// How many octets a message has at most, as its record counts them.
+pub const MOST_OCTETS: u8 = octets::MOST_OCTETS as u8;
+
 // CJ is told once so many bits were heard.
 pub const MOST_HEARD: u32 = 30;
 
@@ -71,7 +74,7 @@ const CI_SYNC: u32 = 512;
 
 pub const MENU_SYNC: u32 = 960;
 
-const FRAMED_0: u32 = 512;
+pub const FRAMED_0: u32 = 512;
 
 // CJ: the octet 0 three times.
 pub const CJ_WORD: u32 = FRAMED_0 + FRAMED_0 * 1024 + FRAMED_0 * 1048576;
@@ -98,6 +101,7 @@ pub struct Turned {
 }
 
 // The ranges of docs/RANGES.md, of the ear.
+#[tactic(auto, using(laws::proofs::Cases::cases), unfolding(laws::specs::Logic::both))]
 pub fn ear_fits(ear: Ear) -> bool
     ensures { result ≡ ear_in_range ear }
 {
@@ -105,25 +109,18 @@ pub fn ear_fits(ear: Ear) -> bool
 }
 
 // The refusal that an act above those of the messages is.
+#[tactic(auto, using(laws::proofs::Cases::cases), unfolding(laws::specs::Logic::when, crate::specs::Framing::refusal_in))]
 pub fn refusal_in(act: u32) -> Refusal
     ensures { number result ≡ refusal_in act }
 {
-    if act == NOT_A_BIT {
-        return Refusal::NotABit;
+    match act {
+        NOT_A_BIT => Refusal::NotABit,
+        STOP_BIT_ZERO => Refusal::StopBitZero,
+        BAD_OCTET => Refusal::BadOctet,
+        TOO_MANY_OCTETS => Refusal::TooManyOctets,
+        BAD_RECORD => Refusal::BadRecord,
+        _ => Refusal::CutShort,
     }
-    if act == STOP_BIT_ZERO {
-        return Refusal::StopBitZero;
-    }
-    if act == BAD_OCTET {
-        return Refusal::BadOctet;
-    }
-    if act == TOO_MANY_OCTETS {
-        return Refusal::TooManyOctets;
-    }
-    if act == BAD_RECORD {
-        return Refusal::BadRecord;
-    }
-    Refusal::CutShort
 }
 
 fn push(past: u32, bit: u8) -> u32
@@ -133,12 +130,14 @@ fn push(past: u32, bit: u8) -> u32
     past / 2 + bit as u32 * TOP_BIT
 }
 
+#[tactic(auto, using(laws::proofs::Cases::cases), unfolding(laws::specs::Logic::when, crate::specs::Framing::more))]
 fn one_more(heard: u32) -> u32
     ensures { result ≡ more heard }
 {
     if heard < MOST_HEARD { heard + 1 } else { heard }
 }
 
+#[tactic(auto, using(laws::proofs::Cases::cases), unfolding(laws::specs::Logic::both, crate::specs::Framing::is_cj, sequences::specs::Line::cj, sequences::specs::Line::framed_all, sequences::specs::Line::framed))]
 fn ends_cj(past: u32, heard: u32) -> bool
     ensures { result ≡ is_cj past heard }
 {
@@ -155,137 +154,114 @@ pub fn octet_heard(past: u32) -> u8
 fn go_to(place: u32, act: u32) -> Placed
     ensures { result ≡ go place act }
 {
-    Placed {
-        place: place,
-        act: act,
-    }
+    Placed { place, act }
 }
 
+#[tactic(auto, using(laws::proofs::Cases::cases), unfolding(laws::specs::Logic::when, laws::specs::Logic::both, crate::specs::Framing::hunted))]
 fn hunt(before: u32, bit: u8) -> u32
     ensures { result ≡ hunted before bit }
 {
-    if bit == 0 {
-        if before / TOP_TEN == TEN_ONES {
-            IN_SYNC
-        } else {
-            HUNTING
-        }
+    if bit == 0 && before / TOP_TEN == TEN_ONES {
+        IN_SYNC
     } else {
         HUNTING
     }
 }
 
+#[tactic(auto, using(laws::proofs::Cases::cases), unfolding(laws::specs::Logic::when, crate::specs::Framing::synced))]
 fn end_sync(past: u32) -> Placed
     ensures { result ≡ synced past }
 {
-    let ten = past / TOP_TEN;
-    if ten == CI_SYNC {
-        return go_to(BOUNDARY, START_CI);
+    match past / TOP_TEN {
+        CI_SYNC => go_to(BOUNDARY, START_CI),
+        MENU_SYNC => go_to(BOUNDARY, START_MENU),
+        _ => go_to(HUNTING, NOTHING),
     }
-    if ten == MENU_SYNC {
-        return go_to(BOUNDARY, START_MENU);
-    }
-    go_to(HUNTING, NOTHING)
 }
 
+#[tactic(auto, using(laws::proofs::Cases::cases), unfolding(laws::specs::Logic::when, crate::specs::Framing::bounded))]
 fn at_boundary(bit: u8) -> Placed
     ensures { result ≡ bounded bit }
 {
     if bit == 0 {
-        return go_to(IN_OCTET, NOTHING);
+        go_to(IN_OCTET, NOTHING)
+    } else {
+        go_to(ENDING_ONES, NOTHING)
     }
-    go_to(ENDING_ONES, NOTHING)
 }
 
+#[tactic(auto, using(laws::proofs::Cases::cases), unfolding(laws::specs::Logic::when, laws::specs::Logic::both, crate::specs::Framing::stopped))]
 fn at_stop(past: u32, len: u8, bit: u8) -> Placed
     ensures { result ≡ stopped past len bit }
 {
     if bit == 0 {
-        return go_to(HUNTING, STOP_BIT_ZERO);
+        go_to(HUNTING, STOP_BIT_ZERO)
+    } else if octets::is_bad(octet_heard(past)) {
+        go_to(HUNTING, BAD_OCTET)
+    } else if len == MOST_OCTETS {
+        go_to(HUNTING, TOO_MANY_OCTETS)
+    } else {
+        go_to(BOUNDARY, STORE)
     }
-    if octets::is_bad(octet_heard(past)) {
-        return go_to(HUNTING, BAD_OCTET);
-    }
-    if len == 64 {
-        return go_to(HUNTING, TOO_MANY_OCTETS);
-    }
-    go_to(BOUNDARY, STORE)
 }
 
+#[tactic(auto, using(laws::proofs::Cases::cases), unfolding(laws::specs::Logic::when, crate::specs::Framing::ended))]
 fn at_end(place: u32, before: u32, bit: u8) -> Placed
     ensures { result ≡ ended place before bit }
 {
     if bit == 0 {
-        return go_to(hunt(before, bit), CUT_SHORT);
+        go_to(hunt(before, bit), CUT_SHORT)
+    } else if place < LAST_OF_ENDING {
+        go_to(place + 1, NOTHING)
+    } else {
+        go_to(HUNTING, REPORT)
     }
-    if place < LAST_OF_ENDING {
-        return go_to(place + 1, NOTHING);
-    }
-    go_to(HUNTING, REPORT)
 }
 
+#[tactic(auto, using(laws::proofs::Cases::cases), unfolding(laws::specs::Logic::when, crate::specs::Framing::placed))]
 fn place_bit(place: u32, before: u32, past: u32, len: u8, bit: u8) -> Placed
     ensures { result ≡ placed place before past len bit }
 {
-    if place == HUNTING {
-        return go_to(hunt(before, bit), NOTHING);
+    match place {
+        HUNTING => go_to(hunt(before, bit), NOTHING),
+        IN_SYNC..LAST_OF_SYNC => go_to(place + 1, NOTHING),
+        LAST_OF_SYNC => end_sync(past),
+        BOUNDARY => at_boundary(bit),
+        IN_OCTET..STOP_POSITION => go_to(place + 1, NOTHING),
+        STOP_POSITION => at_stop(past, len, bit),
+        _ => at_end(place, before, bit),
     }
-    if place < LAST_OF_SYNC {
-        return go_to(place + 1, NOTHING);
-    }
-    if place == LAST_OF_SYNC {
-        return end_sync(past);
-    }
-    if place == BOUNDARY {
-        return at_boundary(bit);
-    }
-    if place < STOP_POSITION {
-        return go_to(place + 1, NOTHING);
-    }
-    if place == STOP_POSITION {
-        return at_stop(past, len, bit);
-    }
-    at_end(place, before, bit)
 }
 
+#[tactic(auto, using(laws::proofs::Cases::cases), unfolding(laws::specs::Logic::when, crate::specs::Framing::turned))]
 fn turn_on(ear: Ear, len: u8, bit: u8) -> Turned
     requires { bit < 2 }
     ensures { result ≡ turned ear len bit }
 {
-    let before = ear.past;
-    let place = ear.place;
-    let past = push(before, bit);
+    let past = push(ear.past, bit);
     let heard = one_more(ear.heard);
-    if ends_cj(past, heard) {
-        return Turned {
-            ear: Ear {
-                past: past,
-                heard: heard,
-                place: HUNTING,
-            },
-            act: TELL_CJ,
-        };
-    }
-    let next = place_bit(place, before, past, len, bit);
+    let Placed { place, act } = if ends_cj(past, heard) {
+        go_to(HUNTING, TELL_CJ)
+    } else {
+        place_bit(ear.place, ear.past, past, len, bit)
+    };
     Turned {
-        ear: Ear {
-            past: past,
-            heard: heard,
-            place: next.place,
-        },
-        act: next.act,
+        ear: Ear { past, heard, place },
+        act,
     }
 }
 
 // A bit turns the ear and says what is to be done; a byte that is no bit is refused and turns nothing.
+#[tactic(auto, using(laws::proofs::Cases::cases), unfolding(laws::specs::Logic::when))]
 pub fn turn(ear: Ear, len: u8, bit: u8) -> Turned
     ensures { result ≡ turned_by ear len bit }
 {
     if 1 < bit {
-        return Turned {
-            ear: ear,
+        Turned {
+            ear,
             act: NOT_A_BIT,
-        };
+        }
+    } else {
+        turn_on(ear, len, bit)
     }
-    turn_on(ear, len, bit)
 }
