@@ -1,15 +1,17 @@
 -- Bits that stand in a row: the number that they make, and the past once they are heard, by induction over how many they are.
 -- Assumes nothing.
-use Prim.Native.Nat.{ℕ, zero, suc, ◌<◌, ◌≤◌, ◌+◌, ◌*◌, ◌-◌, ◌/◌, ◌^◌}
+use Prim.Native.Nat.{ℕ, zero, suc, ◌<◌, ◌≤◌, ◌+◌, ◌*◌, ◌/◌, ◌^◌}
 use native.Mathlib.Nat.{add-mul-div_right, div-div-eq-div-mul, mul_assoc}
+use native.Mathlib.Numerals.{add-one}
 use native.Mathlib.Omega.{arith}
 use lib.Pow.{pow_pos}
-use mathlib.Core.Path.{◌≡◌, refl, sym, ap, ap₂, subst, ◌∙◌}
+use mathlib.Core.Path.{◌≡◌, refl, sym, ap, ap₂, ◌∙◌}
 use mathlib.Core.Bool.{Bool, true}
 use mathlib.Core.List.{List, [], ◌∷◌}
 use borrow.Author.Tests.{lt-ltb, ltb-true, eq-eqb}
 use lib.Dec.{eqb, ltb, ltb→lt}
-use lib.ListN.{length, get_or}
+use lib.ListN.{length, take, drop, get_or}
+use Rattle.std.proofs.lemmas.List.{get_or-take, get_or-drop}
 use Rattle.laws.specs.Logic.{both}
 use Rattle.laws.specs.Tests.{all_below, every}
 use Rattle.laws.proofs.Logic.{both_true}
@@ -18,6 +20,10 @@ use Rattle.framing.specs.Framing.{pushed}
 use Rattle.framing.proofs.Words.{hearing}
 use Rattle.framing.specs.Framing.{value}
 use Rattle.leaps.specs.Inner.{span, is_bit, TenAt}
+
+-- an item of the slice from `from` on
+pub behind : (s : List ℕ) (from n k : ℕ) → k < n → get_or (take n (drop from s)) k 0 ≡ get_or s (from + k) 0
+behind s from n k there = get_or-take n (drop from s) k 0 there ∙ get_or-drop from s k 0
 
 -- the past once bits are heard, by the number that they make
 pub hearing_number : (w : List ℕ) (p c : ℕ) → c * 2 ^ length w ≡ 4294967296 → hearing p w ≡ p / 2 ^ length w + value w * c
@@ -65,6 +71,13 @@ module _ (s : List ℕ) where
         let later = every_last k (i + 1) tests.1 in
         (ap₂ both tests.0 later.0, ap P (same_place (i + suc k) (i + 1 + k) (omega arith)) ∙ later.1)
 
+    every_more : (k i : ℕ) → every P (span s i k) ≡ true → P (get_or s (i + k) 0) ≡ true → every P (span s i (suc k)) ≡ true
+    unfolding span every both
+    every_more zero i hold last = simp (ap P (same_place i (i + 0) (omega arith)), last)
+    every_more (suc k) i hold last =
+        let tests = every_first k i hold in
+        ap₂ both tests.0 (every_more k (i + 1) tests.1 (ap P (same_place (i + 1 + k) (i + suc k) (omega arith)) ∙ last))
+
   pub value_small : (k i : ℕ) → every is_bit (span s i k) ≡ true → value (span s i k) < 2 ^ k
   unfolding span every
   value_small zero i are_bits = omega arith
@@ -86,7 +99,7 @@ module _ (s : List ℕ) where
       let later = all_ones k (i + 1) tests.1 (omega arith) in
       simp (eq-eqb (get_or s i 0) 1 one) later
 
--- bits that are read from the last to the first, and the number that they make so far
+-- bits that are read one behind the other, and the number that they make so far
 pub record Spanned (s : List ℕ) (i n number : ℕ) : Type 0 where
   pub bits : every is_bit (span s i n) ≡ true
   pub made : number ≡ value (span s i n)
@@ -96,24 +109,15 @@ module _ (s : List ℕ) where
   unfolding span every
   spanned_none i = record { bits = refl; made = refl }
 
-  one_more : (i n number : ℕ) → get_or s i 0 ≤ 1 → Spanned s (i + 1) n number → Spanned s i (suc n) (number * 2 + get_or s i 0)
-  unfolding span every both
-  one_more i n number bit so_far = record { bits = ap₂ both (lt-ltb (get_or s i 0) 2 (omega arith)) so_far.bits; made = omega (arith, so_far.made) }
-
-  pub spanned_more : (i j n m number : ℕ) → j ≡ i + 1 → m ≡ suc n → get_or s i 0 ≤ 1 → Spanned s j n number → Spanned s i m (number * 2 + get_or s i 0)
-  spanned_more i j n m number next more bit so_far =
-      subst (λ (k : ℕ). Spanned s i k (number * 2 + get_or s i 0)) (sym more) (one_more i n number bit (subst (λ (k : ℕ). Spanned s k n number) next so_far))
+  pub spanned_more : (i n number : ℕ) → Spanned s i n number → get_or s (i + n) 0 ≤ 1 → Spanned s i (n + 1) (number + get_or s (i + n) 0 * 2 ^ n)
+  spanned_more i n number so_far bit = rw add-one (record {
+    bits = every_more s is_bit n i so_far.bits (lt-ltb (get_or s (i + n) 0) 2 (omega arith));
+    made = omega (arith, so_far.made, value_last s n i);
+  })
 
   pub spanned_low : (i n number : ℕ) → n < 11 → Spanned s i n number → number < 2 ^ n × (2 ^ n < 1025)
   unfolding all_below both
   spanned_low i n number few so_far = (omega (arith, so_far.made, value_small s n i so_far.bits), ltb→lt _ _ (below (λ (k : ℕ). ltb (2 ^ k) 1025) 11 tt n few))
-
-  pub spanned_ten : (i k number : ℕ) → k ≤ 0 → i + 10 ≤ length s → Spanned s (i + k) (10 - k) number → TenAt s i number
-  spanned_ten i k number none_left room so_far =
-      let start : i + k ≡ i = omega arith in
-      let all : 10 - k ≡ 10 = omega arith in
-      let whole = subst (λ (n : ℕ). Spanned s i n number) all (subst (λ (j : ℕ). Spanned s j (10 - k) number) start so_far) in
-      record { room = room; bits = whole.bits; number = whole.made }
 
   pub ten_low : (i number : ℕ) → TenAt s i number → number < 1024
   ten_low i number stands = omega (arith, stands.number, value_small s 10 i stands.bits)

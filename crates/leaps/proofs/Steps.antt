@@ -68,11 +68,16 @@ still_hunting past bit no-sync =
     (λ _. refl)
 
 -- a bit that leaves a hunting ear hunting
-pub goes_by : (past len bit : ℕ) → bit ≤ 1 → stands_out (pushed past bit) ≡ false → turned_to (pushed past bit) 30 (go 0 0) ≡ turned_by (full past 0) len bit
+goes_by : (past len bit : ℕ) → bit ≤ 1 → stands_out (pushed past bit) ≡ false → turned_to (pushed past bit) 30 (go 0 0) ≡ turned_by (full past 0) len bit
 unfolding stands_out placed when
 goes_by past len bit is_bit_lem plain =
     let tests = either_false _ _ plain in
     sym (turned_full past 0 len bit is_bit_lem (eqb-false _ _ tests.0) ∙ simp (still_hunting past bit (eqb-false _ _ tests.1)))
+
+pub hunts_on : (past bit len : ℕ) (s : List ℕ) (i : ℕ) → i < length s → bit ≡ get_or s i 0 → bit ≤ 1 → stands_out (pushed past bit) ≡ false
+    → advanced (full past 0) len (drop i s) i ≡ advanced (full (pushed past bit) 0) len (drop (i + 1) s) (i + 1)
+hunts_on past bit len s i there here is_bit_lem plain =
+    advanced_on (full past 0) len s i i there (turned_to (pushed past bit) 30 (go 0 0)) (goes_by past len bit is_bit_lem plain ∙ ap (turned_by (full past 0) len) here) refl
 
 -- no leap
 pub stays : (ear : Ear) (len : ℕ) (s : List ℕ) (from : ℕ) → Leads ear len s from (advanced_to (stay ear 0) from)

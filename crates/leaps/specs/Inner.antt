@@ -34,6 +34,7 @@ stands_out past = either (eqb (past / 2 ^ 2) (value cj)) (eqb (past / 2 ^ 21) (v
 pub record Passes (past : ℕ) (bits : List ℕ) (from : ℕ) (p : Passed) : Type 0 where
   pub small : p.past < 4294967296
   pub on : from ≤ p.at
+  pub within : p.at ≤ length bits
   pub same : (len : ℕ) → advanced (full past hunting) len (drop from bits) from ≡ advanced (full p.past hunting) len (drop p.at bits) p.at
 
 -- so many bytes from i on, and whether they are bits

@@ -1,27 +1,25 @@
 -- `leaps::pass_hunting` meets its contract. Invariant: hearing the bits from `from` on with the past that was given comes to what hearing
--- those from i on with the past p does, since each bit between them left a hunting ear hunting (`goes_by`).
+-- those behind the bits that were passed does with the past as it stands, since each of them left a hunting ear hunting (`hunts_on`).
 -- Assumes nothing.
-use borrow.Author.Rules.{rules}
-use native.Mathlib.Omega.{arith}
-use mathlib.Core.Path.{refl, sym, ◌∙◌}
-use lib.ListN.{get_or}
+use Rattle.std.proofs.Common.{ℕ, ◌≡◌, ◌+◌, ◌-◌, ◌*◌, ◌/◌, length, take, drop, get_or, sym, ap, ◌∙◌, arith}
+use Rattle.leaps.specs.Leaps.{advanced}
 use Rattle.leaps.specs.Inner.{full}
-use Rattle.leaps.proofs.Steps.{advanced_on, goes_by}
+use Rattle.leaps.proofs.Spans.{behind}
+use Rattle.leaps.proofs.Steps.{hunts_on}
 use Rattle.leaps.proofs.pass_hunting.Goals as goal
 
-pub loop-i-init : goal.loop-i-init
-loop-i-init c = (search rules, (omega arith, λ len. refl))
-
-pub returns-then-bit-gt1 : goal.returns-then-bit-gt1
-returns-then-bit-gt1 c = record { small = c.loop-i.invariant.0; on = c.loop-i.invariant.1.0; same = c.loop-i.invariant.1.1 }
-
-pub returns-then-stands_out : goal.returns-then-stands_out
-returns-then-stands_out c = record { small = c.loop-i.invariant.0; on = c.loop-i.invariant.1.0; same = c.loop-i.invariant.1.1 }
-
-pub loop-i-preserved : goal.loop-i-preserved
-loop-i-preserved c =
+pub loop-passed-preserved : goal.loop-passed-preserved
+loop-passed-preserved c =
     let bits = c.args.bits.now in
-    (search rules, (omega (arith, c.loop-i.invariant.1.0), λ len. c.loop-i.invariant.1.1 len ∙ advanced_on (full c.loop-i.p 0) len bits c.loop-i.i c.loop-i.i (search rules) _ (goes_by c.loop-i.p len (get_or bits c.loop-i.i 0) (search rules) (sym c.stands_out.ensures ∙ c.if-stands_out.false)) refl))
-
-pub returns : goal.returns
-returns c = record { small = c.loop-i.invariant.0; on = c.loop-i.invariant.1.0; same = c.loop-i.invariant.1.1 }
+    let from = c.args.from in
+    let passed = c.loop-passed.passed in
+    let before = c.loop-passed.past in
+    let here = behind bits from (length bits - from) passed (omega arith) in
+    let next : from + passed + 1 ≡ from + (passed + 1) = omega arith in
+    let after = before / 2 + get_or (take (length bits - from) (drop from bits)) passed 0 * 2147483648 in
+    record {
+      small = omega arith;
+      same = λ len. c.loop-passed.invariant.same len
+          ∙ hunts_on before _ len bits (from + passed) (omega arith) here c.if-bit-gt1.false (sym c.stands_out.ensures ∙ c.if-stands_out.false)
+          ∙ ap (λ (i : ℕ). advanced (full after 0) len (drop i bits) i) next;
+    }
