@@ -1,13 +1,13 @@
 -- What a word does, the end of a line and the end of a text.
 -- Assumes nothing.
-use Rattle.std.proofs.Common.{◌≡◌, ℕ, ◌+◌, ◌*◌, ◌<◌, ◌≤◌, Bool, true, false, eqb, ◌⊎◌, List, Ok, sym, refl, ap, ◌∙◌, inl, inr, arith, le-ltb, lt-ltb, eq-eqb, ne_eqb, eqb-true}
+use Rattle.std.proofs.Common.{◌≡◌, ℕ, ◌+◌, ◌*◌, ◌<◌, ◌≤◌, Bool, true, false, eqb, ◌⊎◌, List, Option, Ok, sym, refl, ap, ◌∙◌, inl, inr, arith, le-ltb, lt-ltb, eq-eqb, ne_eqb, eqb-true}
 use Rattle.laws.specs.Logic.{when, either}
 use Rattle.laws.proofs.Logic.{either_way}
 use Rattle.names.specs.declared.Meaning.{Meaning}
 use Rattle.names.specs.Names.{end, line, function, mode, other_mode, part, wanted, quality, named}
 use Rattle.plans.specs.declared.Reading.{Reading}
 use Rattle.plans.specs.Text.{number, octet}
-use Rattle.plans.specs.Reading.{beginning, in_end, after_home, after_wants, after_call, after_te, after_damaged, first_bit, bits, done, first_octet, octets, after_cadence, after_on, after_answers, mistaken, going, say, name_function, name_home, name_mode, part_word, end_word, is_said, begin_named, behind_name, first_word, name_call, function_word, planning, name_word, number_word, octet_word, read_word, record_of, record_mistake, with_home, finish_end, finish_line, mistake, missing, with_default, finished, mode_first, twice, home, set_at, store, first_of}
+use Rattle.plans.specs.Reading.{beginning, in_end, after_home, after_wants, after_call, after_te, after_damaged, first_bit, bits, done, first_octet, octets, after_cadence, after_on, after_answers, mistaken, going, say, name_function, name_home, name_mode, part_word, end_word, is_said, begin_named, behind_name, first_word, name_call, function_word, planning, name_word, named_word, number_word, octet_word, read_word, record_of, record_mistake, with_home, finish_end, finish_line, mistake, missing, with_default, finished, mode_first, twice, home, set_at, store, first_of}
 use Rattle.plans.specs.Inner.{lacking}
 
 -- a word that names something: the kind of that decides too
@@ -152,8 +152,8 @@ module _ (r : Reading) (text : List ℕ) where
   octet_asked n is-octet (inr here) = simp (here, is-octet)
 
   pub name_asked :
-      (m : Meaning) → m ≡ named text → ((r.context ≡ after_te) ⊎ (r.context ≡ after_cadence) → ⊥) → ((r.context ≡ first_bit) ⊎ (r.context ≡ after_on) → ⊥)
-      → ((r.context ≡ bits) ⊎ (r.context ≡ after_answers) → ⊥) → (r.context ≡ first_octet → ⊥) → (r.context ≡ octets → ⊥) → read_word r text ≡ name_word r m
+      (m : Option Meaning) → m ≡ named text → ((r.context ≡ after_te) ⊎ (r.context ≡ after_cadence) → ⊥) → ((r.context ≡ first_bit) ⊎ (r.context ≡ after_on) → ⊥)
+      → ((r.context ≡ bits) ⊎ (r.context ≡ after_answers) → ⊥) → (r.context ≡ first_octet → ⊥) → (r.context ≡ octets → ⊥) → read_word r text ≡ named_word r m
   unfolding read_word when either
   name_asked m is-meant none none-behind no_bits no_first no_octets =
       simp (ne_eqb r.context after_te (λ here. none (inl here)), ne_eqb r.context after_cadence (λ here. none (inr here)), ne_eqb r.context after_on (λ here. none-behind (inr here)), ne_eqb r.context first_bit (λ here. none-behind (inl here)), ne_eqb r.context bits (λ here. no_bits (inl here)), ne_eqb r.context after_answers (λ here. no_bits (inr here)), ne_eqb r.context first_octet no_first, ne_eqb r.context octets no_octets, is-meant)

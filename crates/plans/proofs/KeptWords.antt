@@ -1,6 +1,6 @@
 -- What is read stays good, word by word.
 -- Assumes nothing.
-use Rattle.std.proofs.Common.{◌≡◌, ℕ, zero, suc, ◌<◌, ◌≤◌, Bool, true, false, eqb, ltb, ◌⊎◌, List, [], ◌∷◌, ◌++◌, length, sym, refl, ap, ◌∙◌, subst, ap₂, inl, inr, ⊎_elim, append-nil, le_refl, arith, lit<, lit≤, length-append, ltb-false, le-ltb, lt-ltb, ne_eqb, eqb-true}
+use Rattle.std.proofs.Common.{◌≡◌, ℕ, zero, suc, ◌<◌, ◌≤◌, Bool, true, false, eqb, ltb, ◌⊎◌, List, [], ◌∷◌, ◌++◌, Option, Some, None, length, sym, refl, ap, ◌∙◌, subst, ap₂, inl, inr, ⊎_elim, append-nil, le_refl, arith, lit<, lit≤, length-append, ltb-false, le-ltb, lt-ltb, ne_eqb, eqb-true}
 use borrow.Author.Tests.{eqb-false}
 use Rattle.laws.specs.Logic.{when, both, either}
 use Rattle.laws.proofs.Logic.{either_way, both_true, both_neither, clash}
@@ -12,7 +12,7 @@ use Rattle.steps.specs.Session.{is_te}
 use Rattle.plans.specs.declared.Plan.{Plan}
 use Rattle.plans.specs.declared.Reading.{Reading}
 use Rattle.plans.specs.Text.{number, no_octet, octet}
-use Rattle.plans.specs.Reading.{beginning, in_end, after_home, after_wants, after_call, after_te, after_damaged, first_bit, bits, done, first_octet, octets, sends_alone, octets_behind, cadence_behind, after_cadence, after_on, answers_behind, after_answers, default_on, default_off, stranger, twice, with_call, mistaken, going, begin_line, home, set_at, say, lacks_call, planning, cadenced, answering, all_said, nothing_yet, name_cm, part_word, end_word, is_said, begin_named, behind_name, first_word, name_call, function_word, name_word, te_word, is_on, on_word, off_word, is_answer, answer_word, one_of, bit_word, octet_word, at_bits, at_octets, at_number, number_word, read_word, record_of, one_octet}
+use Rattle.plans.specs.Reading.{beginning, in_end, after_home, after_wants, after_call, after_te, after_damaged, first_bit, bits, done, first_octet, octets, sends_alone, octets_behind, cadence_behind, after_cadence, after_on, answers_behind, after_answers, default_on, default_off, stranger, twice, with_call, mistaken, going, begin_line, home, set_at, say, lacks_call, planning, cadenced, answering, all_said, nothing_yet, name_cm, part_word, end_word, is_said, begin_named, behind_name, first_word, name_call, function_word, name_word, named_word, te_word, is_on, on_word, off_word, is_answer, answer_word, one_of, bit_word, octet_word, at_bits, at_octets, at_number, number_word, read_word, record_of, one_octet}
 use Rattle.plans.proofs.Cadences.{both_periods}
 use Rattle.plans.proofs.Meant.{Meant, meant}
 use Rattle.plans.proofs.KeptLine.{Outside, within, Calling, Settled, calling_on, settled_within, Kept, Later, call_had, new_line, kept_wanted, kept_mode, kept_home, kept_function}
@@ -231,6 +231,10 @@ module _ (cm : List ℕ) (r : Reading) (kept : Kept cm r) where
       (λ _. either_way (Later cm) (eqb m.kind end) _ _ (λ _. kept_damaged m.number)
       (λ _. slip r.context)))))
 
+  kept_named : (m : Option Meaning) → ((n : Meaning) → m ≡ Some n → Meant n) → Later cm (named_word r m)
+  kept_named (Some m) can-be = kept_name m (can-be m refl)
+  kept_named None can-be = slip r.context
+
   kept_te : eqb r.context after_te ≡ true → (te : ℕ) → Later cm (te_word r te)
   unfolding either both
   kept_te here te =
@@ -389,4 +393,4 @@ module _ (cm : List ℕ) (r : Reading) (kept : Kept cm r) (text : List ℕ) wher
       let P = Later (cm_behind cm r text) in
       either_way P (at_number r) _ _ (λ t. same_cm _ (number_alone cm r kept t) (kept_number cm r kept t (number text)))
       (λ _. either_way P (at_octets r) _ _ (λ t. rw t (kept_octet cm r kept t (octet text)))
-      (λ t. same_cm _ t (kept_name cm r kept (named text) (meant text))))
+      (λ t. same_cm _ t (kept_named cm r kept (named text) (meant text))))

@@ -26,4 +26,3 @@ pub mod Marks
 pub mod Writing
 pub mod Again
 pub mod Worked
-pub mod Pieces

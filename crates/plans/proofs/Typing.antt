@@ -1,25 +1,25 @@
 -- Laws about the plain form as it is typed, one piece, one octet and one bit at a time.
 -- Assumes nothing.
-use Rattle.std.proofs.Common.{◌≡◌, ℕ, suc, ◌+◌, ◌-◌, ◌<◌, ◌≤◌, Bool, eqb, List, [], ◌∷◌, length, get_or, take, drop, sym, ap, ◌∙◌, add-one, arith, length-drop, drop_of_length-le, length-take-le, get_or-drop, drop-cons, get_or-take, eq-eqb, ne_eqb}
+use Rattle.std.proofs.Common.{◌≡◌, ℕ, suc, ◌+◌, ◌-◌, ◌<◌, ◌≤◌, Bool, eqb, List, [], ◌∷◌, length, get_or, drop, sym, ap, ◌∙◌, add-one, arith, drop_of_length-le, drop-cons, eq-eqb, ne_eqb}
 use Rattle.laws.specs.Logic.{when}
 use Rattle.printing.specs.Page.{Page, typed, hex_octet}
 use Rattle.printing.proofs.Pages.{typed_joined}
 use Rattle.plans.specs.declared.Plan.{Plan}
-use Rattle.plans.specs.Plain.{entry_text, octets_text, bit_text, bits_text}
-use Rattle.plans.specs.Inner.{piece_text, pieces_text}
+use Rattle.plans.specs.Reading.{set_at}
+use Rattle.plans.specs.Plain.{function_text, functions_text, entry_text, octets_text, bit_text, bits_text}
 
-module _ (p : Page) (plan : Plan) (end k last : ℕ) where
-  pub pieces_on : k < last → typed p (pieces_text plan end k (last - k)) ≡ typed (typed p (piece_text plan end k)) (pieces_text plan end (k + 1) (last - (k + 1)))
-  unfolding pieces_text
-  pieces_on more =
-      let one_more : last - k ≡ suc (last - (k + 1)) = omega (arith, more) in
-      ap (λ (count : ℕ). typed p (pieces_text plan end k count)) one_more ∙ typed_joined p (piece_text plan end k) (pieces_text plan end (k + 1) (last - (k + 1)))
+module _ (p : Page) (plan : Plan) (end f last : ℕ) where
+  pub functions_on : f < last → typed p (functions_text plan end f (last - f)) ≡ typed (typed p (function_text f (set_at plan end f))) (functions_text plan end (f + 1) (last - (f + 1)))
+  unfolding functions_text
+  functions_on more =
+      let one_more : last - f ≡ suc (last - (f + 1)) = omega (arith, more) in
+      ap (λ (count : ℕ). typed p (functions_text plan end f count)) one_more ∙ typed_joined p (function_text f (set_at plan end f)) (functions_text plan end (f + 1) (last - (f + 1)))
 
-  pub pieces_end : last ≤ k → typed p (pieces_text plan end k (last - k)) ≡ p
-  unfolding pieces_text typed
-  pieces_end over =
-      let none_left : last - k ≡ 0 = omega (arith, over) in
-      ap (λ (count : ℕ). typed p (pieces_text plan end k count)) none_left
+  pub functions_end : last ≤ f → typed p (functions_text plan end f (last - f)) ≡ p
+  unfolding functions_text typed
+  functions_end over =
+      let none_left : last - f ≡ 0 = omega (arith, over) in
+      ap (λ (count : ℕ). typed p (functions_text plan end f count)) none_left
 
 module _ (p : Page) (front octets : List ℕ) (i : ℕ) where
   pub octet_on : i < length octets → typed p (octets_text front i (drop i octets)) ≡ typed (typed p (entry_text front i (hex_octet (get_or octets i 0)))) (octets_text front (i + 1) (drop (i + 1) octets))
@@ -31,14 +31,6 @@ module _ (p : Page) (front octets : List ℕ) (i : ℕ) where
   pub octets_end : length octets ≤ i → typed p (octets_text front i (drop i octets)) ≡ p
   unfolding octets_text typed
   octets_end over = ap (λ (rest : List ℕ). typed p (octets_text front i rest)) (drop_of_length-le octets over)
-
--- so many bits from a place on are those of the list
-module _ (damaged : List ℕ) (start times i : ℕ) (all : start + times ≤ length damaged) where
-  pub bits_length : length (take times (drop start damaged)) ≡ times
-  bits_length = length-take-le times (drop start damaged) (omega (arith, all, length-drop start damaged))
-
-  pub bit_there : i < times → get_or (take times (drop start damaged)) i 0 ≡ get_or damaged (start + i) 0
-  bit_there more = get_or-take times (drop start damaged) i 0 more ∙ get_or-drop start damaged i 0
 
 module _ (p : Page) (front : List ℕ) (count : ℕ) (bits : List ℕ) (i : ℕ) where
   rest : Bool → Page

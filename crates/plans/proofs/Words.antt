@@ -1,6 +1,6 @@
 -- The names are words that name what they should: computed over the table. A name is read as what it names.
 -- Assumes nothing.
-use Rattle.std.proofs.Common.{◌≡◌, ℕ, suc, ◌<◌, Bool, true, false, T, eqb, ltb, List, ◌∷◌, length, drop, sym, refl, subst, ap₂, append-nil, eqb→eq, ltb→lt}
+use Rattle.std.proofs.Common.{◌≡◌, ℕ, suc, ◌<◌, Bool, true, false, T, eqb, ltb, List, ◌∷◌, Option, Some, None, length, drop, sym, refl, ap, subst, ap₂, append-nil, eqb→eq, ltb→lt}
 use Rattle.laws.specs.Logic.{when, both, either}
 use Rattle.laws.specs.Tests.{every, all_below, same_list}
 use Rattle.laws.proofs.Computed.{below, both_left, both_right, same_list_lem}
@@ -21,19 +21,26 @@ meaning kind number = record { kind = kind; number = number }
 pub record Known (word : List ℕ) (kind number : ℕ) : Type 0 where
   pub some : 0 < length word
   pub whole : spelled word ≡ true
-  pub meant : named word ≡ meaning kind number
+  pub meant : named word ≡ Some (meaning kind number)
+
+abbrev is_meant : Option Meaning → ℕ → ℕ → Bool
+is_meant (Some m) kind number = both (eqb m.kind kind) (eqb m.number number)
+is_meant None kind number = false
+
+meant_lem : (m : Option Meaning) (kind number : ℕ) → T (is_meant m kind number) → m ≡ Some (meaning kind number)
+meant_lem (Some m) kind number t = ap Some (ap₂ meaning (eqb→eq m.kind kind (both_left (eqb m.kind kind) _ t)) (eqb→eq m.number number (both_right (eqb m.kind kind) _ t)))
+meant_lem None kind number t = absurd t
 
 abbrev pub is_known : List ℕ → ℕ → ℕ → Bool
-is_known word kind number = both (ltb 0 (length word)) (both (spelled word) (both (eqb (named word).kind kind) (eqb (named word).number number)))
+is_known word kind number = both (ltb 0 (length word)) (both (spelled word) (is_meant (named word) kind number))
 
 pub known : (word : List ℕ) (kind number : ℕ) → T (is_known word kind number) → Known word kind number
 known word kind number t =
     let others = both_right (ltb 0 (length word)) _ t in
-    let meant = both_right (spelled word) _ others in
     record {
       some = ltb→lt 0 (length word) (both_left (ltb 0 (length word)) _ t);
       whole = holds (spelled word) (both_left (spelled word) _ others);
-      meant = ap₂ meaning (eqb→eq (named word).kind kind (both_left (eqb (named word).kind kind) _ meant)) (eqb→eq (named word).number number (both_right (eqb (named word).kind kind) _ meant));
+      meant = meant_lem (named word) kind number (both_right (spelled word) _ others);
     }
 
 -- every name of the table

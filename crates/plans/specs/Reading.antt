@@ -1,5 +1,5 @@
 -- A call text, read into a plan or the first mistake in it.
-use Rattle.std.specs.Prelude.{ℕ, ◌+◌, ◌*◌, ◌/◌, ◌%◌, ◌^◌, Bool, false, List, [], ◌∷◌, ◌++◌, replicate, Result, Ok, Err, is_ok, ◌==◌, nat_lt, slice_index, slice_set}
+use Rattle.std.specs.Prelude.{ℕ, ◌+◌, ◌*◌, ◌/◌, ◌%◌, ◌^◌, Bool, false, List, [], ◌∷◌, ◌++◌, replicate, Option, Some, None, Result, Ok, Err, is_ok, ◌==◌, nat_lt, slice_index, slice_set}
 use Rattle.laws.specs.Logic.{when, both, either}
 use Rattle.items.specs.Items.{in_set}
 use Rattle.names.specs.declared.Meaning.{Meaning}
@@ -372,11 +372,16 @@ number_word r n =
     (when (r.context == after_answers) (answer_word r n)
     (bit_word r n))))
 
+-- and one that names nothing is a mistake
+abbrev pub named_word : Reading → Option Meaning → Reading
+named_word r (Some m) = name_word r m
+named_word r None = mistaken r r.context
+
 unfoldable pub read_word : Reading → List ℕ → Reading
 read_word r text =
     when (at_number r) (number_word r (number text))
     (when (at_octets r) (octet_word r (octet text))
-    (name_word r (named text)))
+    (named_word r (named text)))
 
 -- what a set says of a function: 0 in it that it is named, 1 to 12 its items, from 13 on its PCM options
 abbrev pub modes_of : ℕ → Modes

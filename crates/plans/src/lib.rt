@@ -16,18 +16,20 @@
 // Words stand apart by blanks, tabs and commas, in upper or lower case; # begins a comment. The lines may come in any order.
 #![tactic(auto)]
 
-ghost use Rattle.std.specs.Prelude.{◌≡◌, ◌+◌, ◌-◌, ◌%◌, ◌<◌, ◌≤◌, length, take, drop, set, ◌==◌, slice_index};
+ghost use Rattle.std.specs.Prelude.{◌≡◌, ◌+◌, ◌-◌, ◌%◌, ◌<◌, ◌≤◌, List, [], ◌++◌, length, take, drop, set, ◌==◌, slice_index};
 ghost use Rattle.laws.specs.Logic.{when, both};
 ghost use Rattle.laws.specs.Front.{front};
-ghost use Rattle.printing.specs.Page.{page, typed};
+ghost use Rattle.printing.specs.Page.{typed};
 ghost use Rattle.plans.specs.Text.{word_length, number, hex_value, octet, lines_before, word_at};
 ghost use Rattle.plans.specs.Reading.{mistaken, going, place, set_at, store, added, say, first_of, is_said, begin_named, behind_name, lacks_call, planning, cadenced, answering, all_said, nothing_yet, part_word, name_word, is_on, is_answer, number_word, listed, one_of, read_word, modes_of, record_of, record_mistake, with_home, finish_end, finish_line, between, scan_after, begins_word, read_byte, fresh, finished, read_text, bit_place, marked, octet_at, octets_in, call_not_had, default_on, default_off, default_answer};
-ghost use Rattle.plans.specs.Plain.{function_text, end_text, entry_front, octets_text, bits_text, caller_text, called_text, head_text, te_text, cadence_text, answers_text, plain};
-ghost use Rattle.plans.specs.Inner.{Writes, told_text, home_text, front_of, piece_text, Front, front_text, lacking, bit_at};
+ghost use Rattle.plans.specs.Plain.{function_text, functions_text, wants_text, end_text, entry_front, octets_text, bits_text, damage_text, decimal, caller_text, called_text, head_text, cadence_text, plain};
+ghost use Rattle.plans.specs.Inner.{told_text, lacking, bit_at};
 ghost use Rattle.cadence.specs.Cadence.{is_cadence};
 ghost use Rattle.steps.specs.Session.{default_te};
 
 use items::Item;
+use names::Meaning;
+use printing::Page;
 use records::{Modes, Record};
 
 // How long a call is rehearsed, in bits of 300 a second: 30 seconds.
@@ -555,10 +557,11 @@ fn part_word(r: Reading, part: u8) -> Reading
 }
 
 // A word that names something: what may come next and the kind of what it names decide.
-fn name_word(r: Reading, kind: u8, n: u8) -> Reading
-    ensures { result ≡ name_word r (record { kind = kind; number = n }) }
+fn name_word(r: Reading, m: Meaning) -> Reading
+    ensures { result ≡ name_word r m }
 {
-    let case = 256 * kind as u16 + r.context as u16;
+    let n = m.number;
+    let case = 256 * m.kind as u16 + r.context as u16;
     match case {
         FUNCTION_IN_END => say(r, n, 0, n, first_of(r.first, n)),
         MODE_IN_END | OTHER_MODE_IN_END => {
@@ -659,8 +662,10 @@ fn read_word(r: Reading, word: &[u8]) -> Reading
         FIRST_OCTET => listed(r, 255, octet(word), OCTETS),
         OCTETS => listed(r, 255, octet(word), OCTETS),
         _ => {
-            let m = names::named(word);
-            name_word(r, m.kind, m.number)
+            let Some(m) = names::named(word) else {
+                return going(r, context, context);
+            };
+            name_word(r, m)
         }
     }
 }
@@ -1016,325 +1021,169 @@ pub fn lines_before(text: &[u8], at: usize) -> usize
     lines
 }
 
-// What the line of an end has beside names: its front, and what the end wants, so that each of these, with a comma behind it or without,
-// and a comma alone are a part.
-const TEXTS: [u8; 46] = *b"caller   \nanswerer , wants LAPM, wants access,";
-
-// Where the parts of it begin: the fronts, what is wanted, which begins with a comma; and where that ends.
-const CALLER_FRONT: usize = 0;
-
-const ANSWERER_FRONT: usize = 9;
-
-const LAPM_WANTED: usize = 19;
-
-const BEHIND_COMMA: usize = 20;
-
-const ACCESS_WANTED: usize = 31;
-
-const NO_MORE_WANTED: usize = 45;
-
-// The set that holds the name 'home' alone.
-const HOME_NAMED: u16 = 8;
-
-// The fronts of lines for damaged bits and for blocks, with the blank that stands before each entry; where the blanks stand, and the
-// other fronts.
-const FRONTS: [u8; 49] = *b"\ndamaged   caller \ndamaged   answerer \nblocks    ";
-
-const CALLER_BLANK: usize = 17;
-
-const ANSWERER_LINES: usize = 18;
-
-const ANSWERER_BLANK: usize = 37;
-
-const BLOCKS_LINES: usize = 38;
-
-const BLOCKS_BLANK: usize = 48;
-
-// How many pieces the line of an end has.
-const PIECES: u8 = 9;
-
-// A piece of the plain form: the names of a kind whose numbers are in a set, after them more of another kind, and a part of TEXTS.
-#[derive(Clone, Copy)]
-struct Piece {
-    kind: u8,
-    set: u16,
-    after: u8,
-    more: u16,
-    from: usize,
-    to: usize,
+// A text, where it is wanted.
+fn put_if(page: &mut Page<'_>, wanted: bool, text: &[u8])
+    ensures { page.new ≡ typed page.old (when wanted text.now []) }
+{
+    if wanted {
+        page.put_text(text);
+    }
 }
 
-// A function that an end has, with its modes, as its line names them.
-fn function_piece(function: u8, set: u16) -> Piece
-    ensures { Writes result (function_text function set) }
+// A function that an end has, with its modes.
+fn put_function(page: &mut Page<'_>, function: u8, set: u16)
+    ensures { page.new ≡ typed page.old (function_text function set) }
 {
     if set % 2 == 1 {
-        return Piece {
-            kind: names::FUNCTION,
-            set: added(0, function),
-            after: names::MODE,
-            more: set,
-            from: LAPM_WANTED,
-            to: BEHIND_COMMA,
-        };
-    }
-    Piece {
-        kind: names::NOTHING,
-        set: 0,
-        after: names::NOTHING,
-        more: 0,
-        from: 0,
-        to: 0,
+        names::put_names(page, names::FUNCTION, added(0, function));
+        names::put_names(page, names::MODE, set);
+        page.put_text(b",");
     }
 }
 
-// The home function, what the end wants, and a comma where something is said of its line.
-fn home_piece(home: u16, said: u16) -> Piece
-    ensures { Writes result (home_text home said) }
+// The functions that an end has.
+fn put_functions(page: &mut Page<'_>, plan: Plan, end: u8)
+    ensures { page.new ≡ typed page.old (functions_text plan end 1 6) }
 {
-    let comma = (0 < said / 4 % 4) as usize;
-    let wanted = said % 4;
-    let mut piece = Piece {
-        kind: names::PART,
-        set: HOME_NAMED,
-        after: names::FUNCTION,
-        more: added(0, (home % 8) as u8),
-        from: LAPM_WANTED,
-        to: NO_MORE_WANTED + comma,
-    };
-    match wanted {
-        0 => {
-            piece.to = LAPM_WANTED + comma;
-            piece
-        }
-        1 => {
-            piece.to = ACCESS_WANTED + comma;
-            piece
-        }
-        2 => {
-            piece.from = ACCESS_WANTED;
-            piece
-        }
-        _ => piece,
+    for function in 1..HOME {
+        put_function(page, function, set_at(plan, end, function));
     }
 }
 
-// The front of an end's line; that of the answerer begins a new one.
-fn front_piece(end: u8) -> Piece
-    ensures { Writes result (front_of end) }
+// What an end wants, and what its line is.
+fn put_wants(page: &mut Page<'_>, said: u16)
+    ensures { page.new ≡ typed page.old (wants_text said) }
 {
-    if end == steps::CALLER {
-        return Piece {
-            kind: names::NOTHING,
-            set: 0,
-            after: names::NOTHING,
-            more: 0,
-            from: CALLER_FRONT,
-            to: ANSWERER_FRONT,
-        };
-    }
-    Piece {
-        kind: names::NOTHING,
-        set: 0,
-        after: names::NOTHING,
-        more: 0,
-        from: ANSWERER_FRONT,
-        to: LAPM_WANTED,
-    }
+    put_if(page, said % 2 == 1, b", wants LAPM");
+    put_if(page, said / 2 % 2 == 1, b", wants access");
+    put_if(page, 0 < said / 4 % 4, b",");
+    names::put_names(page, names::QUALITY, said);
 }
 
-// The pieces of an end's line: its front, its functions, its home function, what its line is.
-fn piece_at(plan: Plan, end: u8, k: u8) -> Piece
-    ensures { Writes result (piece_text plan end k) }
+// The line of an end of which something is said, behind its front.
+fn put_end(page: &mut Page<'_>, front: &[u8], plan: Plan, end: u8)
+    ensures { page.new ≡ typed page.old (end_text front.now plan end) }
 {
-    let set = set_at(plan, end, k);
-    match k {
-        0 => front_piece(end),
-        7 => home_piece(set, set_at(plan, end, 0)),
-        8 => Piece {
-            kind: names::QUALITY,
-            set: set,
-            after: names::NOTHING,
-            more: 0,
-            from: 0,
-            to: 0,
-        },
-        _ => function_piece(k, set),
-    }
-}
-
-// The line of an end of which something is said.
-fn put_end(out: &mut [u8], at: usize, plan: Plan, end: u8) -> usize
-    ensures { page out.new result ≡ typed (page out.old at) (end_text (front_of end) plan end) }
-{
-    let mut n = at;
-    let mut k: u8 = 0;
-    while k < PIECES {
-        let p = piece_at(plan, end, k);
-        let from = p.from;
-        let to = p.to;
-        n = names::put_names(out, n, p.kind, p.set);
-        n = names::put_names(out, n, p.after, p.more);
-        n = printing::put_text(out, n, &TEXTS[from..to]);
-        k += 1;
-    }
-    n
-}
-
-// Where the text before an entry begins: at the front of its line where those before it fill theirs, otherwise at the blank.
-fn front_of(front: usize, blank: usize, count: usize) -> usize
-    ensures { result ≡ when (count % 16 == 0) front blank }
-{
-    if count % ENTRIES_A_LINE == 0 {
-        return front;
-    }
-    blank
+    page.put_text(front);
+    put_functions(page, plan, end);
+    page.put_text(b" home");
+    let home = set_at(plan, end, HOME) % 8;
+    names::put_names(page, names::FUNCTION, added(0, home as u8));
+    put_wants(page, set_at(plan, end, 0));
 }
 
 // What stands before an entry of a list, behind so many others: a blank, and before that the front where a line begins.
-fn put_front(out: &mut [u8], at: usize, front: usize, blank: usize, count: usize) -> usize
-    requires { Front front blank }
-    ensures { page out.new result ≡ typed (page out.old at) (entry_front (front_text front blank) count) }
+fn put_front(page: &mut Page<'_>, front: &[u8], count: usize)
+    ensures { page.new ≡ typed page.old (entry_front front.now count) }
 {
-    let from = front_of(front, blank, count);
-    let end = blank + 1;
-    printing::put_text(out, at, &FRONTS[from..end])
+    put_if(page, count % ENTRIES_A_LINE == 0, front);
+    page.put_text(b" ");
 }
 
-// The damaged bits of an end from a place on, so many of them; in each line sixteen, behind its front.
-fn put_bits(
-    out: &mut [u8],
-    at: usize,
-    front: usize,
-    blank: usize,
-    damaged: &[u8],
-    start: usize,
-    times: usize,
-) -> usize
-    requires front { Front front blank }
-    requires times_bound { times ≤ 9000 }
-    requires times_in_bounds { start + times ≤ length damaged.now }
-    ensures { page out.new result ≡ typed (page out.old at) (bits_text (front_text front blank) 0 0 (take times (drop start damaged.now))) }
+// The damaged bits of an end; in each line sixteen, behind its front.
+fn put_bits(page: &mut Page<'_>, front: &[u8], damaged: &[u8])
+    requires { length damaged.now ≤ 9000 }
+    ensures { page.new ≡ typed page.old (bits_text front.now 0 0 damaged.now) }
 {
-    let mut n = at;
     let mut count: usize = 0;
-    let mut i: usize = 0;
-    while i < times {
-        if damaged[start + i] == 1 {
-            n = put_front(out, n, front, blank, count);
-            n = printing::put_decimal(out, n, i as u64);
+    for (time, &bit) in damaged.iter().enumerate() {
+        if bit == 1 {
+            put_front(page, front, count);
+            page.put_decimal(time as u64);
             count += 1;
         }
-        i += 1;
     }
-    n
 }
 
 // Octets; in each line sixteen, behind its front.
-fn put_octets(out: &mut [u8], at: usize, front: usize, blank: usize, octets: &[u8]) -> usize
-    requires { Front front blank }
-    ensures { page out.new result ≡ typed (page out.old at) (octets_text (front_text front blank) 0 octets.now) }
+fn put_octets(page: &mut Page<'_>, front: &[u8], octets: &[u8])
+    ensures { page.new ≡ typed page.old (octets_text front.now 0 octets.now) }
 {
-    let mut n = at;
-    let mut i: usize = 0;
-    while i < octets.len() {
-        n = put_front(out, n, front, blank, i);
-        n = printing::put_octet(out, n, octets[i]);
-        i += 1;
+    for (count, &octet) in octets.iter().enumerate() {
+        put_front(page, front, count);
+        page.put_octet(octet);
     }
-    n
 }
 
 // The line of the caller. A stranger's CM is not parted into lines: its octets have a blank before each, and no front.
-fn put_caller(out: &mut [u8], at: usize, plan: Plan, cm: &[u8]) -> usize
-    ensures { page out.new result ≡ typed (page out.old at) (caller_text plan cm.now) }
+fn put_caller(page: &mut Page<'_>, plan: Plan, cm: &[u8])
+    ensures { page.new ≡ typed page.old (caller_text plan cm.now) }
 {
     if plan.function == STRANGER {
-        let n = printing::put_text(out, at, b"caller    sends");
-        return put_octets(out, n, BLOCKS_BLANK, BLOCKS_BLANK, cm);
+        page.put_text(b"caller    sends");
+        put_octets(page, b"", cm);
+        return;
     }
-    put_end(out, at, plan, steps::CALLER)
+    put_end(page, b"caller   ", plan, steps::CALLER);
 }
 
 // The line for the function called, which a stranger says in its CM.
-fn put_called(out: &mut [u8], at: usize, function: u8) -> usize
-    ensures { page out.new result ≡ typed (page out.old at) (called_text function) }
+fn put_called(page: &mut Page<'_>, function: u8)
+    ensures { page.new ≡ typed page.old (called_text function) }
 {
     if function == STRANGER {
-        return at;
+        return;
     }
-    let n = printing::put_text(out, at, b"\ncall     ");
-    names::put_names(out, n, names::FUNCTION, added(0, function))
+    page.put_text(b"\ncall     ");
+    names::put_names(page, names::FUNCTION, added(0, function));
 }
 
 // All that is said of the ends and of the function called.
-fn put_head(out: &mut [u8], at: usize, plan: Plan, cm: &[u8]) -> usize
-    ensures { page out.new result ≡ typed (page out.old at) (head_text plan cm.now) }
+fn put_head(page: &mut Page<'_>, plan: Plan, cm: &[u8])
+    ensures { page.new ≡ typed page.old (head_text plan cm.now) }
 {
-    let mut n = put_caller(out, at, plan, cm);
-    n = put_end(out, n, plan, steps::ANSWERER);
-    put_called(out, n, plan.function)
+    put_caller(page, plan, cm);
+    put_end(page, b"\nanswerer ", plan, steps::ANSWERER);
+    put_called(page, plan.function);
 }
 
-// The line for Te.
-fn put_te(out: &mut [u8], at: usize, te: u16) -> usize
-    ensures { page out.new result ≡ typed (page out.old at) (te_text te) }
+// A number behind a text.
+fn put_number(page: &mut Page<'_>, front: &[u8], number: u16)
+    ensures { page.new ≡ typed page.old (front.now ++ decimal number) }
 {
-    let n = printing::put_text(out, at, b"\nTe        ");
-    printing::put_decimal(out, n, te as u64)
+    page.put_text(front);
+    page.put_decimal(number as u64);
 }
 
 // The line for the cadence.
-fn put_cadence(out: &mut [u8], at: usize, on: u8, off: u16) -> usize
-    ensures { page out.new result ≡ typed (page out.old at) (cadence_text on off) }
+fn put_cadence(page: &mut Page<'_>, on: u8, off: u16)
+    ensures { page.new ≡ typed page.old (cadence_text on off) }
 {
-    let mut n = printing::put_text(out, at, b"\ncadence   ");
-    n = printing::put_decimal(out, n, on as u64);
-    n = printing::put_text(out, n, b" ");
-    printing::put_decimal(out, n, off as u64)
-}
-
-// The line for the answer.
-fn put_answers(out: &mut [u8], at: usize, answers: u16) -> usize
-    ensures { page out.new result ≡ typed (page out.old at) (answers_text answers) }
-{
-    let n = printing::put_text(out, at, b"\nanswers   ");
-    printing::put_decimal(out, n, answers as u64)
+    put_number(page, b"\ncadence   ", on as u16);
+    put_number(page, b" ", off);
 }
 
 // All that a plan says beside the blocks and the damaged bits.
-fn put_told(out: &mut [u8], at: usize, plan: Plan, cm: &[u8]) -> usize
-    ensures { page out.new result ≡ typed (page out.old at) (told_text plan cm.now) }
+fn put_told(page: &mut Page<'_>, plan: Plan, cm: &[u8])
+    ensures { page.new ≡ typed page.old (told_text plan cm.now) }
 {
-    let mut n = put_head(out, at, plan, cm);
-    n = put_te(out, n, plan.te);
-    n = put_cadence(out, n, plan.on, plan.off);
-    put_answers(out, n, plan.answers)
+    put_head(page, plan, cm);
+    put_number(page, b"\nTe        ", plan.te);
+    put_cadence(page, plan.on, plan.off);
+    put_number(page, b"\nanswers   ", plan.answers);
+}
+
+// The damaged bits of both ends, where the list has a place for each.
+fn put_damaged(page: &mut Page<'_>, damaged: &[u8])
+    ensures { page.new ≡ typed page.old (damage_text damaged.now) }
+{
+    if damaged.len() < BITS_OF_BOTH {
+        return;
+    }
+    put_bits(page, b"\ndamaged   caller", &damaged[..BIT_TIMES]);
+    put_bits(
+        page,
+        b"\ndamaged   answerer",
+        &damaged[BIT_TIMES..BITS_OF_BOTH],
+    );
 }
 
 // A plan in its plain form: a text that is read as this plan, with every default written out.
-pub fn put_plan(
-    out: &mut [u8],
-    at: usize,
-    plan: Plan,
-    cm: &[u8],
-    blocks: &[u8],
-    damaged: &[u8],
-) -> usize
-    ensures { page out.new result ≡ typed (page out.old at) (plain plan cm.now blocks.now damaged.now) }
+pub fn put_plan(page: &mut Page<'_>, plan: Plan, cm: &[u8], blocks: &[u8], damaged: &[u8])
+    ensures { page.new ≡ typed page.old (plain plan cm.now blocks.now damaged.now) }
 {
-    let times = BIT_TIMES * (BITS_OF_BOTH <= damaged.len()) as usize;
-    let mut n = put_told(out, at, plan, cm);
-    n = put_octets(out, n, BLOCKS_LINES, BLOCKS_BLANK, blocks);
-    n = put_bits(out, n, 0, CALLER_BLANK, damaged, 0, times);
-    n = put_bits(
-        out,
-        n,
-        ANSWERER_LINES,
-        ANSWERER_BLANK,
-        damaged,
-        times,
-        times,
-    );
-    printing::put_text(out, n, b"\n")
+    put_told(page, plan, cm);
+    put_octets(page, b"\nblocks   ", blocks);
+    put_damaged(page, damaged);
+    page.put_text(b"\n");
 }

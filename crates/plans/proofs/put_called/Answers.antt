@@ -1,9 +1,9 @@
--- `plans::put_called` meets its contract: nothing for a stranger, otherwise the front of the line and the name.
+-- `plans::put_called` meets its contract: whether a stranger calls decides.
 -- Assumes nothing.
 use Rattle.std.proofs.Common.{eq-eqb, ne_eqb}
 use Rattle.laws.specs.Logic.{when}
 use Rattle.names.specs.Bytes.{bytes}
-use Rattle.printing.specs.Page.{page, typed}
+use Rattle.printing.specs.Page.{typed}
 use Rattle.printing.proofs.Pages.{typed_then}
 use Rattle.plans.specs.Plain.{called_text}
 use Rattle.plans.proofs.put_called.Goals as goal
@@ -15,6 +15,5 @@ returns-then-function-eq-STRANGER c = simp (eq-eqb _ _ c.if-function-eq-STRANGER
 pub returns : goal.returns
 unfolding called_text when bytes
 returns c =
-    let here = page c.args.out.now c.args.at in
     let name = rw c.added.ensures at c.put_names.ensures in
-    simp (ne_eqb _ _ c.if-function-eq-STRANGER.false) (typed_then here _ _ c.put_text-n.ensures name)
+    simp (ne_eqb _ _ c.if-function-eq-STRANGER.false) (typed_then _ _ _ c.put_text.ensures name)

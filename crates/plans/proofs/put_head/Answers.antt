@@ -1,12 +1,9 @@
--- `plans::put_head` meets its contract: one line behind the other.
+-- `plans::put_head` meets its contract: the lines of both ends, and that of the call.
 -- Assumes nothing.
-use Rattle.laws.specs.Logic.{when}
-use Rattle.printing.specs.Page.{page}
+use Rattle.names.specs.Bytes.{bytes}
 use Rattle.printing.proofs.Pages.{typed_then}
 use Rattle.plans.proofs.put_head.Goals as goal
 
 pub returns : goal.returns
-unfolding when
-returns c =
-    let here = page c.args.out.now c.args.at in
-    typed_then here _ _ (typed_then here _ _ c.put_caller-n.ensures c.put_end-n.ensures) c.put_called.ensures
+unfolding bytes
+returns c = typed_then _ _ _ (typed_then _ _ _ c.put_caller.ensures c.put_end.ensures) c.put_called.ensures

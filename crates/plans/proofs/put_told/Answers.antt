@@ -1,10 +1,10 @@
--- `plans::put_told` meets its contract: one line behind the other.
+-- `plans::put_told` meets its contract: the lines, one after the other.
 -- Assumes nothing.
-use Rattle.printing.specs.Page.{page}
+use Rattle.names.specs.Bytes.{bytes}
 use Rattle.printing.proofs.Pages.{typed_then}
 use Rattle.plans.proofs.put_told.Goals as goal
 
 pub returns : goal.returns
+unfolding bytes
 returns c =
-    let here = page c.args.out.now c.args.at in
-    typed_then here _ _ (typed_then here _ _ (typed_then here _ _ c.put_head-n.ensures c.put_te-n.ensures) c.put_cadence-n.ensures) c.put_answers.ensures
+    typed_then _ _ _ (typed_then _ _ _ (typed_then _ _ _ c.put_head.ensures c.put_number.ensures) c.put_cadence.ensures) c.put_number-2.ensures

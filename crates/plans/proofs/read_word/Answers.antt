@@ -1,6 +1,7 @@
 -- `plans::read_word` meets its contract: what may come next decides.
 -- Assumes nothing.
-use Rattle.std.proofs.Common.{sym, ◌∙◌, inl, inr, arith}
+use Rattle.std.proofs.Common.{sym, ap, ◌∙◌, inl, inr, arith}
+use Rattle.plans.specs.Reading.{named_word}
 use Rattle.plans.proofs.Cases.{number_asked, octet_asked, name_asked}
 use Rattle.plans.proofs.read_word.Goals as goal
 
@@ -29,7 +30,12 @@ returns-in-21 c =
     let args = c.args in
     c.listed-in-21.ensures ∙ sym (octet_asked args.r args.word.now _ c.octet-in-21.ensures (inr c.in-21.is))
 
-pub returns-in_default : goal.returns-in_default
-returns-in_default c =
-    let args = c.args in
-    c.name_word.ensures ∙ sym (name_asked args.r args.word.now _ c.named-m.ensures (omega arith) (omega arith) (omega arith) (omega arith) (omega arith))
+pub returns-in_default-named : goal.returns-in_default-named
+returns-in_default-named c =
+    let r = c.args.r in
+    c.going.ensures ∙ ap (named_word r) (sym c.in_default-named.is) ∙ sym (name_asked r c.args.word.now _ c.named.ensures (omega arith) (omega arith) (omega arith) (omega arith) (omega arith))
+
+pub returns-in-Some : goal.returns-in-Some
+returns-in-Some c =
+    let r = c.args.r in
+    c.name_word.ensures ∙ ap (named_word r) (sym c.in-Some.is) ∙ sym (name_asked r c.args.word.now _ c.named.ensures (omega arith) (omega arith) (omega arith) (omega arith) (omega arith))
