@@ -8,7 +8,7 @@ use lib.Dec.{ltb}
 use lib.ListN.{length}
 use Rattle.laws.specs.Logic.{when}
 use Rattle.laws.specs.Front.{front}
-use Rattle.refusals.specs.declared.Wrote.TheVariants.{Count}
+use Rattle.std.specs.Prelude.{Ok}
 use Rattle.cadence.specs.declared.Cadence.{Cadence}
 use Rattle.cadence.specs.Cadence.{on_bits}
 use Rattle.cadence.specs.Giving.{cadence_fits, due, moved_on, Gives, giving, given}
@@ -23,7 +23,7 @@ given_in c out inside = simp inside
 
 pub gives_these : (c : Cadence) (out after : List ℕ) (n place sent on ci : ℕ) → cadence_fits c ≡ true → n ≡ due c (length out) → on ≡ on_bits c.on → ci ≡ ci_number c.function
     → place ≡ (c.place + n) % (on + c.off) → sent ≡ when (ltb (c.sent + n) 90) (c.sent + n) 90 → after ≡ front (bits_here ci on (on + c.off) c.place n) out
-    → Gives (given c out) (record { cadence = record { off = c.off; place = place; on = c.on; function = c.function; sent = sent; tone = c.tone }; answer = Count n }) after
+    → Gives (given c out) (record { cadence = record { off = c.off; place = place; on = c.on; function = c.function; sent = sent; tone = c.tone }; answer = Ok n }) after
 unfolding moved_on
 gives_these c out after n place sent on ci inside n-is on-is ci_is place_is sent_is after_is =
     let bits = found_bits c.function c.on c.off c.place n (function_small c.function (fits_are c inside).function) in

@@ -8,7 +8,7 @@ ghost use Rattle.cadence.specs.Cadence.{is_function, is_cadence, on_bits};
 ghost use Rattle.cadence.specs.Giving.{place_fits, cadence_fits, no_cadence, is_none, begun, left, remembering, due, Gives, given};
 ghost use Rattle.cadence.specs.Inner.{ci_number, bit_here, bits_here};
 
-use refusals::{Refusal, Wrote};
+use refusals::Refusal;
 
 // CI sequences, then bit times of silence, again and again: how many of each, and the function that CI names. Where in this the next
 // bit stands, how many bits were given out, and the tone that ended it. As numbers, since a host in C holds it in its session;
@@ -60,7 +60,7 @@ const FUNCTION_WEIGHT: u32 = 67108864;
 #[derive(Clone, Copy)]
 pub struct Given {
     pub cadence: Cadence,
-    pub answer: Wrote,
+    pub answer: Result<usize, Refusal>,
 }
 
 // A function that CI may name.
@@ -224,11 +224,11 @@ pub fn give(c: Cadence, out: &mut [u8]) -> Given
                 sent: sent_after(c.sent, n),
                 ..c
             },
-            answer: Wrote::Count(n),
+            answer: Ok(n),
         };
     }
     Given {
         cadence: c,
-        answer: Wrote::Refused(Refusal::BadRecord),
+        answer: Err(Refusal::BadRecord),
     }
 }

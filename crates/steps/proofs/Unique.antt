@@ -1,7 +1,6 @@
 -- No two answers say the same, and two results that meet what is laid down are equal.
 -- Assumes nothing.
 use Rattle.std.proofs.Common.{Result, Ok, Err, ◌≡◌, ℕ, List, sym, refl, ap, ◌∙◌, ap₂}
-use Rattle.refusals.specs.declared.Wrote.{Wrote}
 use Rattle.refusals.specs.declared.Refusal.{Refusal}
 use Rattle.refusals.proofs.Numbers.{named, named_number}
 use Rattle.refusals.proofs.Outcomes.{says_wrote_injective}
@@ -56,4 +55,4 @@ pub draws_unique : (laid : DrawOutcome) (a b : Drawn) (after before : List ℕ) 
 draws_unique laid a b after before p q =
     let answer = says_wrote_injective a.answer b.answer (p.answer ∙ sym q.answer) in
     let session = p.session ∙ sym q.session in
-    (ap₂ (λ (s : Session) (w : Wrote). record { session = s; answer = w }) session answer, p.buffer ∙ sym q.buffer)
+    (ap₂ (λ (s : Session) (w : Result ℕ Refusal). record { session = s; answer = w }) session answer, p.buffer ∙ sym q.buffer)

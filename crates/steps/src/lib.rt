@@ -14,7 +14,7 @@ ghost use Rattle.steps.specs.Stepping.{says_answered, Steps, elapsed, owns, carr
 ghost use Rattle.steps.specs.Drawing.{Draws, drawn};
 
 use cadence::Cadence;
-use refusals::{Refusal, Wrote};
+use refusals::Refusal;
 
 // What an end keeps of its call, as numbers, since a host in C holds it; docs/RANGES.md says what they may be. The time of the
 // start or of the last change of state, Te, the cadence of CI, which end this is, its state, the choice, and how the session ended.
@@ -342,7 +342,7 @@ pub struct Stepped {
 #[derive(Clone, Copy)]
 pub struct Drawn {
     pub session: Session,
-    pub answer: Wrote,
+    pub answer: Result<usize, Refusal>,
 }
 
 fn is_between(low: u8, high: u8, n: u8) -> bool
@@ -777,11 +777,11 @@ pub fn draw(session: Session, out: &mut [u8]) -> Drawn
         }
         return Drawn {
             session,
-            answer: Wrote::Count(0),
+            answer: Ok(0),
         };
     }
     Drawn {
         session,
-        answer: Wrote::Refused(Refusal::BadRecord),
+        answer: Err(Refusal::BadRecord),
     }
 }
