@@ -6,7 +6,7 @@ use super::words;
 use super::words::Text;
 use fields::{Block, Span};
 use menus::{Offer, ReadMenu};
-use refusals::{Refusal, Wrote};
+use refusals::Refusal;
 use steps::Session;
 
 // The columns: milliseconds end at 5, the ends' own stand at 7 and 86, and the middle has the 66 between 19 and 85.
@@ -48,8 +48,7 @@ impl Event {
         match self {
             Event::Entered(state) => state_word(state),
             Event::Heard(Told::Agreed) => "agreed",
-            Event::Heard(Told::NotAnswered(_)) => "refused",
-            Event::Heard(Told::Refused(_)) => "refused",
+            Event::Heard(Told::Refused(_) | Told::NotAnswered(_)) => "refused",
             Event::Heard(_) => "hears",
         }
     }
@@ -81,11 +80,8 @@ fn state_word(state: u8) -> &'static str {
 
 fn state_arrow(state: u8) -> &'static str {
     match state {
-        steps::CALLING => TO_ANSWERER,
-        steps::MENU => TO_ANSWERER,
-        steps::CLOSING => TO_ANSWERER,
-        steps::ANSWERING => TO_CALLER,
-        steps::JOINT => TO_CALLER,
+        steps::CALLING | steps::MENU | steps::CLOSING => TO_ANSWERER,
+        steps::ANSWERING | steps::JOINT => TO_CALLER,
         _ => "",
     }
 }
@@ -331,10 +327,9 @@ fn tell_refused(line: &Line, refusal: Refusal) {
 
 // The field of a CM that was heard.
 fn tell_field(line: &Line, cm: &[u8]) {
-    let mut octets = [0u8; octets::MOST_OCTETS];
-    match fields::read_field(cm, &mut octets) {
-        Wrote::Count(len) => tell_blocks(line, Made::new(octets, len).octets()),
-        Wrote::Refused(refusal) => tell_refused(line, refusal),
+    match Made::by(|out| fields::read_field(cm, out)) {
+        Ok(field) => tell_blocks(line, field.octets()),
+        Err(refusal) => tell_refused(line, refusal),
     }
 }
 
@@ -351,11 +346,11 @@ pub fn heard(line: &Line, told: Told, octets: &[u8]) {
     let end = line.session.end;
     let text = match told {
         Told::Ci(_) => menu_text(" CI", octets),
-        Told::Menu => menu_text(menu_name(end), octets),
-        Told::Agreed => menu_text(menu_name(end), octets),
+        Told::Menu | Told::Agreed => menu_text(menu_name(end), octets),
         Told::Cj => Text::of(" CJ"),
-        Told::NotAnswered(refusal) => Text::blank().put_refusal(refusal),
-        Told::Refused(refusal) => Text::blank().put_refusal(refusal),
+        Told::Refused(refusal) | Told::NotAnswered(refusal) => {
+            Text::blank().put_refusal(refusal)
+        }
     };
     tell(line, Some(Event::Heard(told)), text);
     if told == Told::Menu && end == steps::ANSWERER {

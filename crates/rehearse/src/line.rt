@@ -4,13 +4,10 @@ ghost use Rattle.std.specs.Prelude.{◌≤◌};
 
 use super::ladder;
 use listening::{Heard, Listener};
-use octets::Kind;
+use octets::{Kind, MOST_OCTETS};
 use plans::Plan;
-use refusals::Wrote;
+use refusals::{Refusal, Wrote};
 use steps::{Answer, Session};
-
-// How many octets a menu has at most.
-pub const MOST_OCTETS: usize = 64;
 
 // How many bits an octet takes on the line.
 const OCTET_BITS: usize = 10;
@@ -37,8 +34,19 @@ impl Made {
     // What was written into a buffer, of which no more than all is kept.
     pub fn new(octets: [u8; MOST_OCTETS], len: usize) -> Made {
         Made {
-            octets: octets,
+            octets,
             len: len.min(MOST_OCTETS),
+        }
+    }
+
+    // What a call writes into a buffer with room for a menu, or why it writes nothing.
+    pub fn by<F: FnOnce(&mut [u8]) -> Wrote>(write: F) -> Result<Made, Refusal>
+        requires { (out : _) → F.pre write out }
+    {
+        let mut octets = [0u8; MOST_OCTETS];
+        match write(&mut octets) {
+            Wrote::Count(len) => Ok(Made::new(octets, len)),
+            Wrote::Refused(refusal) => Err(refusal),
         }
     }
 
@@ -111,13 +119,8 @@ impl Sending {
         match state {
             steps::MENU => self.next,
             steps::JOINT => self.next,
-            steps::CLOSING => {
-                if self.next % OCTET_BITS == 0 {
-                    self.next.max(CJ_AT)
-                } else {
-                    self.next
-                }
-            }
+            steps::CLOSING if self.next % OCTET_BITS == 0 => self.next.max(CJ_AT),
+            steps::CLOSING => self.next,
             _ => IDLE,
         }
     }
@@ -162,20 +165,16 @@ fn choose(cm: &[u8], jm: &[u8]) -> u8 {
 
 // A bit that was given out, where it is none of silence.
 fn sounding(bit: u8) -> Option<u8> {
-    if bit == cadence::SILENCE {
-        None
-    } else {
-        Some(bit)
-    }
+    (bit != cadence::SILENCE).then_some(bit)
 }
 
 impl Line {
     // A call starts, with nothing made or heard.
     pub fn new(session: Session, plan: Plan) -> Line {
         Line {
-            plan: plan,
+            plan,
             now: 0,
-            session: session,
+            session,
             ear: listening::fresh_line(),
             menu: Made::new([0u8; MOST_OCTETS], 0),
             sending: Sending::idle(),
@@ -194,11 +193,11 @@ impl Line {
     fn step(&mut self, event: u8, value: u8) {
         let stepped = steps::step(self.session, event, value, self.now);
         self.session = stepped.session;
-        match stepped.answer {
-            Answer::Entered(_) => ladder::entered(self),
-            Answer::Ended(_) => ladder::entered(self),
-            Answer::GoOn(_) => ladder::entered(self),
-            _ => {}
+        if matches!(
+            stepped.answer,
+            Answer::Entered(_) | Answer::Ended(_) | Answer::GoOn(_)
+        ) {
+            ladder::entered(self);
         }
     }
 
@@ -275,14 +274,12 @@ impl Line {
     // A CM to answer with the JM for it.
     fn hear_cm(&mut self, cm: &[u8]) {
         let own = plans::record_of(self.plan, steps::ANSWERER);
-        let mut octets = [0u8; MOST_OCTETS];
-        match offers::make_jm(own, cm, &mut octets) {
-            Wrote::Count(len) => {
-                let jm = Made::new(octets, len);
+        match Made::by(|out| offers::make_jm(own, cm, out)) {
+            Ok(jm) => {
                 self.set_menu(jm);
                 self.choose(steps::AGREED_CM, choose(cm, jm.octets()));
             }
-            Wrote::Refused(refusal) => self.not_answered(refusals::refusal_number(refusal)),
+            Err(refusal) => self.not_answered(refusals::refusal_number(refusal)),
         }
     }
 

@@ -11,10 +11,10 @@ mod words;
 
 ghost use Rattle.std.specs.Prelude.{◌≡◌, ◌<◌, length};
 
-use line::{Line, MOST_OCTETS, Made};
-use octets::{Kind, Purpose};
+use line::{Line, Made};
+use octets::{Kind, MOST_OCTETS, Purpose};
 use plans::Plan;
-use refusals::{Refusal, Verdict, Wrote};
+use refusals::{Refusal, Verdict};
 use steps::{Session, Started};
 use words::Text;
 
@@ -172,10 +172,9 @@ fn unmade(refusal: Refusal) -> &'static str {
 // The call of a caller that is known, where CM can be made with its blocks.
 fn call_known(text: &[u8], plan: Plan, blocks: &[u8]) {
     let own = plans::record_of(plan, steps::CALLER);
-    let mut made = [0u8; MOST_OCTETS];
-    match offers::make_cm(own, plan.function, blocks, &mut made) {
-        Wrote::Count(len) => put_call(text, plan, blocks, Made::new(made, len)),
-        Wrote::Refused(refusal) => Text::of(unmade(refusal)).say(),
+    match Made::by(|out| offers::make_cm(own, plan.function, blocks, out)) {
+        Ok(cm) => put_call(text, plan, blocks, cm),
+        Err(refusal) => Text::of(unmade(refusal)).say(),
     }
 }
 
@@ -237,9 +236,7 @@ fn place(text: &[u8], at: usize) -> Text {
 // A mistake; a text that lacks a line has no place for it.
 fn mistake(text: &[u8], what: u8, at: usize) -> Text {
     let before = match what {
-        plans::NO_CALLER => Text::blank(),
-        plans::NO_ANSWERER => Text::blank(),
-        plans::NO_CALL => Text::blank(),
+        plans::NO_CALLER | plans::NO_ANSWERER | plans::NO_CALL => Text::blank(),
         _ => place(text, at),
     };
     help::put_mistake(before, what)
