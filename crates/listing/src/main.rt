@@ -75,8 +75,7 @@ impl<'a> Lines<'a> {
     fn put_refusal(&mut self, place: u64, r: Refusal) {
         self.page.put_decimal(place);
         self.page.put_text(b"\tR");
-        self.page
-            .put_decimal(u64::from(refusals::refusal_number(r)));
+        self.page.put_decimal(u64::from(u8::from(r)));
         self.page.put_text(b"\t-\t-\n");
     }
 
