@@ -98,6 +98,7 @@ fn write_group(out: &mut [u8], octets: &[u8]) -> usize
     requires octets_in_bounds { 10 * length octets.now ≤ length out.old }
     ensures { Grouped octets.now out.old result out.new }
 {
+    // no `for`: where the group ends is found while it is written, and a second pass would look for it
     let mut i: usize = 0;
     loop {
         let at = FRAME * i;
@@ -115,6 +116,7 @@ fn write_groups(out: &mut [u8], octets: &[u8])
     requires octets_in_bounds { 10 * length octets.now ≤ length out.old }
     ensures { out.new ≡ front (framed_all octets.now) out.old }
 {
+    // no `for`: the writer of a group says how many octets it had
     let mut i: usize = 0;
     while i < octets.len() {
         let at = FRAME * i;
