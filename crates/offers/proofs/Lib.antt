@@ -4,3 +4,4 @@ pub mod Meaning
 pub mod Answering
 pub mod Saying
 pub mod Fields
+pub mod Writing

@@ -5,16 +5,22 @@ use native.Mathlib.Nat.{not-suc-le-zero}
 use native.Mathlib.Omega.{arith}
 use mathlib.Core.Path.{◌≡◌, refl, sym, ap, ap₂, subst, ◌∙◌}
 use mathlib.Core.Bool.{Bool, true, false}
-use mathlib.Core.List.{List, [], ◌∷◌, ◌++◌}
+use mathlib.Core.List.{List, [], ◌∷◌, ◌++◌, append_assoc, append-nil}
 use borrow.Author.Tests.{lt-ltb, le-ltb, ltb-false, ne_eqb}
 use lib.Dec.{ltb, lit<}
+use mir.Val.{bool_byte}
+use Rattle.std.specs.Prelude.{Option, Result}
+use Rattle.std.specs.Bool.{then_some}
 use lib.ListN.{length, take, get_or, replicate, length-append}
 use Rattle.laws.specs.Logic.{when}
-use Rattle.laws.specs.Front.{front}
 use Rattle.laws.specs.Joined.{joined}
-use Rattle.laws.proofs.Logic.{either_way, bit_of_test, clash}
-use Rattle.refusals.specs.Lent.{room_fault, put}
-use Rattle.octets.specs.Octets.{category_octet}
+use Rattle.laws.proofs.Logic.{either_way, bit_of_test}
+use Rattle.refusals.specs.Refusals.{before}
+use Rattle.refusals.specs.declared.Refusal.{Refusal}
+use Rattle.refusals.specs.Lent.{room_fault, put, Meets}
+use Rattle.laws.specs.Tests.{every}
+use Rattle.fields.specs.Blocks.{blocks_fault, blocks_behind}
+use Rattle.octets.specs.Octets.{call_function_tag, category_octet}
 use Rattle.items.specs.Items.{in_set, no_items, modulation_octet}
 use Rattle.items.proofs.Places.{octet_past}
 use Rattle.menus.specs.declared.Offer.{Offer}
@@ -26,21 +32,39 @@ use Rattle.records.specs.declared.Modes.{Modes}
 use Rattle.records.specs.declared.Record.{Record}
 use Rattle.records.specs.Record.{in_use, bad_record}
 use Rattle.offers.specs.Offering.{bit, access_options, shared_items, jm_pcm}
-use Rattle.offers.specs.Making.{one_octet, modulation_from, modulation_group, house_count, groups_of, menu_of, record_fault, function_fault, with_field, size_fault}
-use Rattle.offers.specs.Inner.{Writes}
+use Rattle.offers.specs.Making.{one_octet, modulation_from, modulation_group, house_count, menu_of, record_fault, function_fault, with_field, size_fault}
+use Rattle.offers.specs.Inner.{lone_octet}
 
-pub one_there : (there : Bool) (octet : ℕ) (out : List ℕ) → there ≡ true → length (one_octet there octet) ≤ length out → 0 < length out
+-- a byte that a test is made into is its bit
+pub bit_from : (t : Bool) → bool_byte t ≡ bit t
 unfolding when
-one_there true octet out t h = h
-one_there false octet out t h = clash (sym t)
+bit_from true = refl
+bit_from false = refl
 
--- a group by its number
-module _ (count : ℕ) (offer : Offer) (k n : ℕ) (same : k ≡ n) (out : List ℕ) where
-  pub group_room : length (get_or (groups_of count offer) k []) ≤ length out → length (get_or (groups_of count offer) n []) ≤ length out
-  group_room h = subst (λ (i : ℕ). length (get_or (groups_of count offer) i []) ≤ length out) same h
+-- an octet that is taken by a test is a group by that test
+pub lone_then : (there : Bool) (octet : ℕ) (one : Option ℕ) → one ≡ then_some there octet → lone_octet one ≡ one_octet there octet
+unfolding when
+lone_then true octet one e = ap lone_octet e
+lone_then false octet one e = ap lone_octet e
 
-  pub group_written : (r : ℕ) (after : List ℕ) → Writes (get_or (groups_of count offer) n []) out r after → Writes (get_or (groups_of count offer) k []) out r after
-  group_written r after w = subst (λ (i : ℕ). Writes (get_or (groups_of count offer) i []) out r after) (sym same) w
+pub lone_length : (there : Bool) (octet : ℕ) (one : Option ℕ) → one ≡ then_some there octet → length (lone_octet one) ≡ bit there
+unfolding when
+lone_length true octet one e = ap (λ (o : Option ℕ). length (lone_octet o)) e
+lone_length false octet one e = ap (λ (o : Option ℕ). length (lone_octet o)) e
+
+-- five groups, each behind those before it, are the menu
+five_joined : (a b c d e : List ℕ) → (((a ++ b) ++ c) ++ d) ++ e ≡ joined (a ∷ b ∷ c ∷ d ∷ e ∷ [])
+unfolding joined
+five_joined a b c d e = simp (append_assoc, append-nil)
+
+pub five_groups : (count : ℕ) (offer : Offer) (call : ℕ) (pcms protocols accesses : List ℕ) → call ≡ category_octet call_function_tag offer.function
+    → pcms ≡ one_octet (ltb 0 offer.pcm) (category_octet pcm_tag offer.pcm)
+    → protocols ≡ one_octet offer.lapm (category_octet protocol lapm_option)
+    → accesses ≡ one_octet offer.access (category_octet access offer.access_options)
+    → ((((call ∷ []) ++ modulation_group count offer.items) ++ pcms) ++ protocols) ++ accesses ≡ menu_of count offer
+five_groups count offer call pcms protocols accesses e1 e2 e3 e4 =
+    five_joined (call ∷ []) (modulation_group count offer.items) pcms protocols accesses
+    ∙ simp (e1, e2, e3, e4)
 
 -- a modulation group has the octets that it is to have, each at its place
 module _ (items : ℕ) where
@@ -155,7 +179,9 @@ size_fits menu h = simp (le-ltb _ _ h)
 pub size_short : (menu : List ℕ) → size_fault menu ≡ 0 → length menu ≤ 64
 size_short menu = either_way (λ (n : ℕ). n ≡ 0 → length menu ≤ 64) (ltb 64 (length menu)) 4 0 (λ _ e. absurd (let z : ⊥ = omega (arith, e) in z)) (λ e _. ltb-false 64 (length menu) e)
 
--- what is put where there is room
-pub room_put : (new out after : List ℕ) → length new ≤ length out → after ≡ (put (room_fault new out) new out).buffer → after ≡ front new out
-unfolding put when
-room_put new out after h e = simp (le-ltb _ _ h) at e
+-- with no blocks a menu has no field, and nothing is refused for them
+pub no_field_put : (menu same out : List ℕ) (r : Result ℕ Refusal) (after : List ℕ) → menu ≡ same
+    → Meets (put (before (size_fault (menu ++ field_of [])) (before (blocks_fault []) (room_fault (menu ++ field_of []) out))) (menu ++ field_of []) out) r after
+    → Meets (put (before (size_fault same) (room_fault same out)) same out) r after
+unfolding when field_of every blocks_behind
+no_field_put menu same out r after e put_there = subst (λ (octets : List ℕ). Meets (put (before (size_fault octets) (room_fault octets out)) octets out) r after) (append-nil menu ∙ e) put_there

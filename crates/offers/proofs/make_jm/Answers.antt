@@ -1,69 +1,62 @@
--- `offers::make_jm` meets its contract: the record decides, then the heard CM, then what is put; the offer is that of what was read and of the modes
--- in use, and its count that of the heard CM.
+-- `offers::make_jm` meets its contract: the record decides, then the heard CM, then what is put; the offer is that of what was read, and its count
+-- that of the heard CM.
 -- Assumes nothing.
 use Prim.Native.Nat.{ℕ}
-use mathlib.Core.Bool.{false}
-use mathlib.Core.List.{List}
-use mathlib.Core.Path.{◌≡◌, sym, ap, subst, ◌∙◌}
+use mathlib.Core.Path.{◌≡◌, sym, ap, ◌∙◌}
 use borrow.Author.Tests.{eq-eqb}
+use Rattle.std.proofs.lemmas.Result.{err_from_is_err_and}
 use Rattle.octets.specs.declared.Purpose.TheVariants.{Reading}
+use Rattle.octets.specs.Octets.{call_function_tag, category_octet}
 use Rattle.octets.specs.Lists.{list_fault}
-use Rattle.refusals.specs.Lent.{Meets}
 use Rattle.refusals.proofs.Outcomes.{meets_refused, meets_accepted}
 use Rattle.menus.specs.declared.Offer.{Offer}
-use Rattle.menus.specs.Offer.{offer_of, says_read}
+use Rattle.menus.specs.Offer.{offer_of}
 use Rattle.menus.proofs.Reading.{read_refused, read_offered}
-use Rattle.records.specs.declared.Modes.{Modes}
-use Rattle.records.specs.Record.{bad_record}
-use Rattle.offers.specs.Offering.{jm_offer_of, jm_offer}
+use Rattle.offers.specs.Offering.{jm_offer}
 use Rattle.offers.specs.Making.{menu_of, modulation_count, jm_menu}
-use Rattle.offers.specs.Inner.{put_menu}
-use Rattle.offers.proofs.Making.{bad_record_lem, good_record}
-use Rattle.offers.proofs.make_jm.Goals.{After-in_use-modes, After-jm_offer-jm, After-modulation_count}
+use Rattle.offers.proofs.Making.{bad_record_lem, good_record, no_field_put}
+use Rattle.offers.proofs.make_jm.Goals.{After-jm_offer-offer, After-modulation_count}
 use Rattle.offers.proofs.make_jm.Goals as goal
 
 pub returns-then-bad : goal.returns-then-bad
 returns-then-bad c =
     meets_refused (jm_menu c.args.own c.args.heard_cm.now) c.args.out.now _ _ _ (bad_record_lem c.args.own (sym c.bad.ensures ∙ c.if-bad.true))
 
--- the record is not bad, and the heard menu was read
-good : (used : After-in_use-modes) → bad_record used.args.own ≡ false
-good used = sym used.bad.ensures ∙ used.if-bad.false
+-- the heard menu was read, and the offer is that for it
+theirs : (offered : After-jm_offer-offer) → (list_fault Reading offered.args.heard_cm.now ≡ 0) × (offered.in_ok-theirs.theirs ≡ offer_of offered.args.heard_cm.now)
+theirs offered = read_offered offered.args.heard_cm.now _ offered.in_ok-theirs.ensures
 
-theirs : (used : After-in_use-modes) → (list_fault Reading used.args.heard_cm.now ≡ 0) × (used.in-Offers.theirs ≡ offer_of used.args.heard_cm.now)
-theirs used = read_offered used.args.heard_cm.now _ (ap says_read (sym used.in-Offers.is) ∙ used.read-menu.ensures)
+made : (offered : After-jm_offer-offer) → offered.jm_offer-offer.result ≡ jm_offer offered.args.own (offer_of offered.args.heard_cm.now)
+made offered = offered.jm_offer-offer.ensures ∙ ap (jm_offer offered.args.own) (theirs offered).1
 
--- the offer is that of the heard menu and the modes in use for its function
-made : (offered : After-jm_offer-jm) → offered.in-Offers.theirs ≡ offer_of offered.args.heard_cm.now → offered.jm_offer-jm.result ≡ jm_offer offered.args.own (offer_of offered.args.heard_cm.now)
-made offered heard =
-    let own = offered.args.own in
-    offered.jm_offer-jm.ensures ∙ ap (λ (m : Modes). jm_offer_of own offered.in-Offers.theirs m) offered.in_use-modes.ensures ∙ ap (jm_offer own) heard
-
-pub answer_octet-call-requires : goal.answer_octet-call-requires
-answer_octet-call-requires c = record { own_value = good (goal.at.answer_octet-call-requires c).After-in_use-modes; heard_cm_value = eq-eqb _ 0 (theirs (goal.at.answer_octet-call-requires c).After-in_use-modes).0 }
+pub answer_octet-requires-clause-heard_cm_value : goal.answer_octet-requires-clause-heard_cm_value
+answer_octet-requires-clause-heard_cm_value c = eq-eqb _ 0 (theirs (goal.at.answer_octet-requires-clause-heard_cm_value c).After-jm_offer-offer).0
 
 pub modulation_count-requires : goal.modulation_count-requires
-modulation_count-requires c = eq-eqb _ 0 (theirs (goal.at.modulation_count-requires c).After-in_use-modes).0
+modulation_count-requires c = eq-eqb _ 0 (theirs (goal.at.modulation_count-requires c).After-jm_offer-offer).0
+
+pub invariant_of-jm : goal.invariant_of-jm
+invariant_of-jm c = record { call_says = c.answer_octet.ensures ∙ ap (λ (jm : Offer). category_octet call_function_tag jm.function) (sym (made (goal.at.invariant_of-jm c).After-jm_offer-offer)) }
 
 -- the menu that is put is JM
-put_is : (counted : After-modulation_count) → counted.jm_offer-jm.result ≡ jm_offer counted.args.own (offer_of counted.args.heard_cm.now) → menu_of counted.modulation_count.result counted.jm_offer-jm.result ≡ jm_menu counted.args.own counted.args.heard_cm.now
+put_is : (counted : After-modulation_count) → counted.jm_offer-offer.result ≡ jm_offer counted.args.own (offer_of counted.args.heard_cm.now) → menu_of counted.modulation_count.result counted.jm_offer-offer.result ≡ jm_menu counted.args.own counted.args.heard_cm.now
 put_is counted said =
     let heard = counted.args.heard_cm.now in
-    ap (λ (count : ℕ). menu_of count counted.jm_offer-jm.result) counted.modulation_count.ensures
+    ap (λ (count : ℕ). menu_of count counted.jm_offer-offer.result) counted.modulation_count.ensures
     ∙ ap (λ (jm : Offer). menu_of (modulation_count jm heard) jm) said
 
-pub put_menu-requires : goal.put_menu-requires
-put_menu-requires c = rw (made (goal.at.put_menu-requires c).After-jm_offer-jm (theirs (goal.at.put_menu-requires c).After-in_use-modes).1) c.answer_octet-call.ensures
-
-pub returns-in-Refused : goal.returns-in-Refused
-returns-in-Refused c =
+pub returns-in_err-theirs : goal.returns-in_err-theirs
+returns-in_err-theirs c =
     let menu = jm_menu c.args.own c.args.heard_cm.now in
+    let p = err_from_is_err_and c.from_residual.result c.from_residual.ensures.1 in
+    rw (p.1, p.2)
+    (meets_accepted menu c.args.out.now _ _ _ _ (good_record c.args.own (sym c.bad.ensures ∙ c.if-bad.false))
+    (meets_refused menu c.args.out.now _ _ _ (read_refused c.args.heard_cm.now c.in_err-theirs.field-0.0 c.in_err-theirs.ensures)))
+
+pub returns : goal.returns
+returns c =
+    let menu = jm_menu c.args.own c.args.heard_cm.now in
+    let heard = (goal.at.returns c).After-jm_offer-offer in
     meets_accepted menu c.args.out.now _ _ _ _ (good_record c.args.own (sym c.bad.ensures ∙ c.if-bad.false))
-    (meets_refused menu c.args.out.now _ _ _ (read_refused c.args.heard_cm.now c.in-Refused.r (ap says_read (sym c.in-Refused.is) ∙ c.read-menu.ensures)))
-
-pub returns-in-Offers : goal.returns-in-Offers
-returns-in-Offers c =
-    let menu = jm_menu c.args.own c.args.heard_cm.now in
-    meets_accepted menu c.args.out.now _ _ _ _ (good_record c.args.own (good (goal.at.returns-in-Offers c).After-in_use-modes))
-    (meets_accepted menu c.args.out.now _ _ _ _ (theirs (goal.at.returns-in-Offers c).After-in_use-modes).0
-    (subst (λ (octets : List ℕ). Meets (put_menu octets c.args.out.now) c.put_menu.result c.put_menu.new.out) (put_is (goal.at.returns-in-Offers c).After-modulation_count (made (goal.at.returns-in-Offers c).After-jm_offer-jm (theirs (goal.at.returns-in-Offers c).After-in_use-modes).1)) c.put_menu.ensures))
+    (meets_accepted menu c.args.out.now _ _ _ _ (theirs heard).0
+    (no_field_put _ menu c.args.out.now _ _ (put_is (goal.at.returns c).After-modulation_count (made heard)) c.put.ensures))

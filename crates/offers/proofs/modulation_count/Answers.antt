@@ -27,6 +27,6 @@ few found =
 pub overflow_cast-result : goal.overflow_cast-result
 overflow_cast-result c = omega (arith, c.group_size.ensures, few (goal.at.overflow_cast-result c).After-group_size)
 
-pub returns : goal.returns
+pub returns-else-jm-gt1 : goal.returns-else-jm-gt1
 unfolding when
-returns c = simp (le-ltb _ _ c.if-jm-gt1.false) (omega (arith, c.group_size.ensures, few (goal.at.returns c).After-group_size))
+returns-else-jm-gt1 c = simp (le-ltb _ _ c.if-jm-gt1.false) (omega (arith, c.group_size.ensures, few (goal.at.returns-else-jm-gt1 c).After-group_size))
