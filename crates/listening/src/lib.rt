@@ -4,12 +4,14 @@
 // is to be done; `act_on` does that to the messages, and `tell` says what it tells. Whoever hears a bit goes through these.
 #![tactic(auto)]
 
-ghost use Rattle.std.specs.Prelude.{◌≡◌, take, Ok};
+ghost use Rattle.std.specs.Prelude.{◌≡◌, Ok};
 ghost use Rattle.listening.specs.Record.{message_in_range, parts_in_range, in_range, empty, fresh};
-ghost use Rattle.listening.specs.Hearing.{says_heard, started, stored, changed, agreed, span_of, reported, told_alone, told, messages_after, listener_of, heard_bit, ear_turned, listened, heard_bits, Hears, HearsMany};
+ghost use Rattle.listening.specs.Hearing.{says_heard, started, stored, changed, octets_of, agreed, span_of, reported, told_alone, told, messages_after, listener_of, heard_bit, ear_turned, listened, heard_bits, Hears, HearsMany};
 ghost use Rattle.listening.specs.Spans.{says_span, spanned, last_span};
 
-use framing::{BAD_RECORD, Ear, HUNTING, REPORT, START_CI, START_MENU, STORE, TELL_CJ, Turned};
+use framing::{
+    BAD_RECORD, Ear, HUNTING, MOST_OCTETS, REPORT, START_CI, START_MENU, STORE, TELL_CJ, Turned,
+};
 use refusals::Refusal;
 
 // A message: 1 for CI, 2 for a menu, 0 for none; how many octets it has; and these.
@@ -32,7 +34,7 @@ pub struct Listener {
 
 // What a bit reports. A message carries its span, the number of bits from the first of its sync to the one that reports it, both counted;
 // behind it a menu says whether it is agreed. With that in front a record of many bits would be copied once more.
-#[derive(Clone, Copy)]
+#[derive(Clone, Copy, Debug, PartialEq, Eq)]
 pub enum Heard {
     Nothing,
     Ci(u16),
@@ -62,23 +64,17 @@ pub struct BitsHeard {
     pub report: Result<Heard, Refusal>,
 }
 
-// The kinds of a message.
+// The kinds of a message: numbers, as C holds them in a record, which may be out of their range.
 const NO_MESSAGE: u8 = 0;
 
 const CI: u8 = 1;
 
 const MENU: u8 = 2;
 
-// How many octets a message has at most.
-const MOST_OCTETS: u8 = 64;
-
 fn start(m: Message, kind: u8) -> Message
     ensures { result ≡ started m kind }
 {
-    let mut next = m;
-    next.kind = kind;
-    next.len = 0;
-    next
+    Message { kind, len: 0, ..m }
 }
 
 // A message of 64 octets takes no further one: the framing refuses that. So there is nothing to test here.
@@ -86,50 +82,40 @@ fn put(m: Message, b: u8) -> Message
     ensures { result ≡ stored m b }
 {
     let n = m.len % MOST_OCTETS;
-    let at = n as usize;
     let mut next = m;
-    next.octets[at] = b;
+    next.octets[n as usize] = b;
     next.len = n + 1;
     next
 }
 
 // What an act does to the message being heard.
+#[tactic(auto, using(laws::proofs::Cases::cases), unfolding(laws::specs::Logic::when, crate::specs::Hearing::changed))]
 fn change(m: Message, act: u32, past: u32) -> Message
     ensures { result ≡ changed m act past }
 {
-    if act == START_CI {
-        return start(m, CI);
+    match act {
+        START_CI => start(m, CI),
+        START_MENU => start(m, MENU),
+        STORE => put(m, framing::octet_heard(past)),
+        _ => m,
     }
-    if act == START_MENU {
-        return start(m, MENU);
-    }
-    if act == STORE {
-        return put(m, framing::octet_heard(past));
-    }
-    m
 }
 
-// The first n octets, or all where there are no more.
-fn first(octets: &[u8], n: usize) -> &[u8]
-    ensures { result.now ≡ take n octets.now }
-{
-    if n <= octets.len() {
-        return &octets[..n];
+impl Message {
+    // The octets that count; all where the record says that there are more.
+    fn heard(&self) -> &[u8]
+        ensures { result.now ≡ octets_of self.now }
+    {
+        self.octets.get(..self.len as usize).unwrap_or(&self.octets)
     }
-    octets
 }
 
 // Whether a menu is agreed, where `last` was reported just before it.
+#[tactic(auto, using(laws::proofs::Cases::cases, laws::proofs::Same::same_by_library), unfolding(laws::specs::Logic::both, crate::specs::Hearing::agreed))]
 fn agree(m: Message, last: Message) -> bool
     ensures { result ≡ agreed m last }
 {
-    let kind = m.kind;
-    let last_kind = last.kind;
-    let octets = m.octets;
-    let before = last.octets;
-    let menu = first(&octets, m.len as usize);
-    octets::can_read(menu)
-        && (kind == last_kind && octets::same(menu, first(&before, last.len as usize)))
+    octets::can_read(m.heard()) && m.kind == last.kind && m.heard() == last.heard()
 }
 
 // The span of a message of so many octets: ten bits for its sync, ten for each octet, and the ten 1s.
@@ -139,6 +125,7 @@ fn span_of(len: u8) -> u16
     20 + 10 * (len as u16)
 }
 
+#[tactic(auto, using(laws::proofs::Cases::cases), unfolding(laws::specs::Logic::when, crate::specs::Hearing::reported))]
 fn report_of(m: Message, last: Message) -> Heard
     ensures { says_heard (Ok result) ≡ reported m last }
 {
@@ -151,6 +138,7 @@ fn report_of(m: Message, last: Message) -> Heard
 }
 
 // What an act tells that reports no message.
+#[tactic(auto, using(laws::proofs::Cases::cases), unfolding(laws::specs::Logic::when, crate::specs::Hearing::told_alone))]
 fn tell_alone(act: u32) -> Result<Heard, Refusal>
     ensures { says_heard result ≡ told_alone act }
 {
@@ -164,6 +152,7 @@ fn tell_alone(act: u32) -> Result<Heard, Refusal>
 }
 
 // What an act tells.
+#[tactic(auto, using(laws::proofs::Cases::cases), unfolding(laws::specs::Logic::when, crate::specs::Hearing::told))]
 pub fn tell(act: u32, m: Message, last: Message) -> Result<Heard, Refusal>
     ensures { says_heard result ≡ told act m last }
 {
@@ -174,54 +163,55 @@ pub fn tell(act: u32, m: Message, last: Message) -> Result<Heard, Refusal>
     }
 }
 
+#[tactic(auto, using(laws::proofs::Cases::cases), unfolding(laws::specs::Logic::both))]
 fn message_fits(kind: u8, len: u8) -> bool
     ensures { result ≡ message_in_range kind len }
 {
     kind <= MENU && len <= MOST_OCTETS
 }
 
-// The ranges of docs/RANGES.md, of what a bit looks at.
+// The ranges of docs/RANGES.md, of what a bit looks at; one by one, since `turn_ear` is passed no more of a record.
+#[tactic(auto, using(laws::proofs::Cases::cases), unfolding(laws::specs::Logic::both))]
 fn parts_fit(ear: Ear, kind: u8, len: u8, last_kind: u8, last_len: u8) -> bool
     ensures { result ≡ parts_in_range ear kind len last_kind last_len }
 {
-    framing::ear_fits(ear) && (message_fits(kind, len) && message_fits(last_kind, last_len))
+    framing::ear_fits(ear) && message_fits(kind, len) && message_fits(last_kind, last_len)
 }
 
 fn fits(rec: Listener) -> bool
     ensures { result ≡ in_range rec }
 {
-    let ear = rec.ear;
-    let msg = rec.msg;
-    let last = rec.last;
+    let Listener { ear, msg, last } = rec;
     parts_fit(ear, msg.kind, msg.len, last.kind, last.len)
 }
 
 // The first part of a bit: the ear is turned, unless the record is out of its range. Most bits ask for nothing more.
+#[tactic(auto, using(laws::proofs::Cases::cases), unfolding(laws::specs::Logic::when, crate::specs::Hearing::ear_turned))]
 pub fn turn_ear(ear: Ear, kind: u8, len: u8, last_kind: u8, last_len: u8, bit: u8) -> Turned
     ensures { result ≡ ear_turned ear kind len last_kind last_len bit }
 {
     if parts_fit(ear, kind, len, last_kind, last_len) {
-        return framing::turn(ear, len, bit);
-    }
-    Turned {
-        ear: ear,
-        act: BAD_RECORD,
+        framing::turn(ear, len, bit)
+    } else {
+        Turned {
+            ear,
+            act: BAD_RECORD,
+        }
     }
 }
 
 // The second part, where something is asked for: what that does to the two messages. `tell` says what it tells.
+#[tactic(auto, using(crate::proofs::Acts::messages_report, crate::proofs::Acts::messages_other))]
 pub fn act_on(msg: Message, last: Message, act: u32, past: u32) -> Messages
     ensures { result ≡ messages_after msg last act past }
 {
     if act == REPORT {
-        return Messages {
-            msg: msg,
-            last: msg,
-        };
-    }
-    Messages {
-        msg: change(msg, act, past),
-        last: last,
+        Messages { msg, last: msg }
+    } else {
+        Messages {
+            msg: change(msg, act, past),
+            last,
+        }
     }
 }
 
@@ -229,22 +219,15 @@ pub fn act_on(msg: Message, last: Message, act: u32, past: u32) -> Messages
 pub fn listener_of(ear: Ear, messages: Messages) -> Listener
     ensures { result ≡ listener_of ear messages }
 {
-    let msg = messages.msg;
-    let last = messages.last;
-    Listener {
-        ear: ear,
-        msg: msg,
-        last: last,
-    }
+    let Messages { msg, last } = messages;
+    Listener { ear, msg, last }
 }
 
 // A bit: what it reports, and the record after it.
 pub fn hear(rec: Listener, bit: u8) -> BitHeard
     ensures { Hears (heard_bit rec bit) result }
 {
-    let ear = rec.ear;
-    let msg = rec.msg;
-    let last = rec.last;
+    let Listener { ear, msg, last } = rec;
     let turned = turn_ear(ear, msg.kind, msg.len, last.kind, last.len, bit);
     let next = turned.ear;
     let after = act_on(msg, last, turned.act, next.past);
@@ -254,6 +237,7 @@ pub fn hear(rec: Listener, bit: u8) -> BitHeard
     }
 }
 
+#[tactic(auto, using(laws::proofs::Cases::cases), unfolding(laws::specs::Logic::when, crate::specs::Spans::spanned))]
 fn span_in(m: Message) -> Option<u16>
     ensures { says_span (Ok result) ≡ spanned m }
 {
@@ -265,6 +249,7 @@ fn span_in(m: Message) -> Option<u16>
 }
 
 // The span of the message reported last, where there is one, for a host to which its report came as a number.
+#[tactic(auto, using(laws::proofs::Cases::cases), unfolding(laws::specs::Logic::when, crate::specs::Spans::last_span))]
 pub fn last_span(rec: Listener) -> Result<Option<u16>, Refusal>
     ensures { says_span result ≡ last_span rec }
 {
@@ -281,7 +266,7 @@ fn no_message() -> Message
     Message {
         kind: NO_MESSAGE,
         len: 0,
-        octets: [0u8; 64],
+        octets: [0; 64],
     }
 }
 
@@ -304,10 +289,13 @@ pub fn fresh_line() -> Listener
 fn run(rec: Listener, bits: &[u8]) -> BitsHeard
     ensures { HearsMany (listened rec bits.now 0) result }
 {
-    let mut ear = rec.ear;
-    let mut msg = rec.msg;
-    let last = rec.last;
-    let mut i: usize = 0;
+    let Listener {
+        mut ear,
+        mut msg,
+        last,
+    } = rec;
+    let mut i = 0;
+    // no `for`: a turn moves on by as many bits as ask for nothing
     while i < bits.len() {
         let a = leaps::advance(ear, msg.len, bits, i);
         ear = a.ear;
@@ -316,49 +304,44 @@ fn run(rec: Listener, bits: &[u8]) -> BitsHeard
         if act == STORE {
             // as `put` does it, but in place and before all else: an octet comes often, and the message is large
             let n = msg.len % MOST_OCTETS;
-            let at = n as usize;
-            msg.octets[at] = framing::octet_heard(ear.past);
+            msg.octets[n as usize] = framing::octet_heard(ear.past);
             msg.len = n + 1;
-        } else {
+        } else if act == REPORT {
             // what `tell` would say; the compiler puts it in place only where a report stands apart
-            if act == REPORT {
-                return BitsHeard {
-                    rec: listener_of(ear, act_on(msg, last, act, ear.past)),
-                    taken: i,
-                    report: Ok(report_of(msg, last)),
-                };
-            }
-            if REPORT < act {
-                return BitsHeard {
-                    rec: listener_of(ear, act_on(msg, last, act, ear.past)),
-                    taken: i,
-                    report: tell_alone(act),
-                };
-            }
+            return BitsHeard {
+                rec: listener_of(ear, act_on(msg, last, act, ear.past)),
+                taken: i,
+                report: Ok(report_of(msg, last)),
+            };
+        } else if REPORT < act {
+            return BitsHeard {
+                rec: listener_of(ear, act_on(msg, last, act, ear.past)),
+                taken: i,
+                report: tell_alone(act),
+            };
+        } else {
             msg = change(msg, act, ear.past);
         }
     }
     BitsHeard {
-        rec: Listener {
-            ear: ear,
-            msg: msg,
-            last: last,
-        },
+        rec: Listener { ear, msg, last },
         taken: i,
         report: Ok(Heard::Nothing),
     }
 }
 
 // Many bits: hears them up to the first that reports something, and answers how many were taken.
+#[tactic(auto, using(laws::proofs::Cases::cases), unfolding(laws::specs::Logic::when))]
 pub fn hear_many(rec: Listener, bits: &[u8]) -> BitsHeard
     ensures { HearsMany (heard_bits rec bits.now) result }
 {
     if fits(rec) {
-        return run(rec, bits);
-    }
-    BitsHeard {
-        rec: rec,
-        taken: 0,
-        report: Err(Refusal::BadRecord),
+        run(rec, bits)
+    } else {
+        BitsHeard {
+            rec,
+            taken: 0,
+            report: Err(Refusal::BadRecord),
+        }
     }
 }
