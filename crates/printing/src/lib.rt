@@ -1,6 +1,6 @@
 // Printing on a page that is lent: a buffer, and the place of the next byte in it. Each method writes from that place on, and leaves out
 // what has no room.
-#![tactic(auto)]
+#![tactic(auto, using(laws::proofs::Cases::cases, crate::proofs::Pages::typed_on, crate::proofs::Pages::typed_end), unfolding(laws::specs::Logic::when, crate::specs::Page::typed))]
 
 ghost use Rattle.std.specs.Prelude.{◌≤◌, ◌≡◌};
 ghost use Rattle.printing.specs.Page.{struck, typed, hex_digit, hex_octet, TypedDecimal};
