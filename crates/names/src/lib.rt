@@ -90,6 +90,7 @@ fn is_name(name: &[u8], word: &[u8]) -> bool
 }
 
 // What a word names by some names.
+#[tactic(auto, using(crate::proofs::Each::named_here, crate::proofs::Each::named_end))]
 fn named_by(names: &[(&[u8], u8, u8)], word: &[u8]) -> Option<Meaning>
     ensures { result ≡ named_by (entries lent names.now) word.now }
 {
@@ -109,6 +110,7 @@ pub fn named(word: &[u8]) -> Option<Meaning>
 }
 
 // Whether what is named is of this kind and in the set.
+#[tactic(auto, using(laws::proofs::Cases::cases), unfolding(laws::specs::Logic::both))]
 fn shown(its_kind: u8, number: u8, kind: u8, set: u16) -> bool
     ensures { result ≡ shown its_kind number kind set }
 {
