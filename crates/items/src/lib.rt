@@ -1,5 +1,5 @@
 // Items: where they stand in the modulation group, and sets of them as numbers.
-#![tactic(auto)]
+#![tactic(auto, using(laws::proofs::Cases::cases), unfolding(laws::specs::Logic::when, laws::specs::Logic::both))]
 
 ghost use Rattle.std.specs.Prelude.{◌≡◌, ◌+◌, ◌*◌, ◌/◌, ◌%◌, ◌<◌, ◌≤◌, eqb};
 ghost use Rattle.laws.specs.Logic.{when};

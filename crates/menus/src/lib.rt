@@ -1,5 +1,5 @@
 // Menus: looking for a group, its part of the message, what a menu offers, one item asked for alone, and which PCM options of two ends pair.
-#![tactic(auto)]
+#![tactic(auto, using(laws::proofs::Cases::cases), unfolding(laws::specs::Logic::when, laws::specs::Logic::both))]
 
 ghost use Rattle.std.specs.Prelude.{◌≡◌, false, ◌+◌, ◌<◌, ◌≤◌, length, drop, not, position};
 ghost use Rattle.std.specs.List.{prefix_len};
@@ -223,6 +223,7 @@ pub fn asks(octets: &[u8], item: Item) -> Result<Asked, Refusal>
 }
 
 // The PCM options of one end that pair with those of the other: b5 with b6, b6 with b5, b7 with b7.
+#[tactic(auto, unfolding(crate::specs::Pcm::paired))]
 pub fn paired_options(theirs: u8, ours: u8) -> u8
     ensures { result ≡ paired theirs ours }
 {

@@ -10,15 +10,7 @@ returns-then-octets-place c =
     let args = c.args in
     c.no_block.ensures ∙ none_there args.octets.now args.place (omega arith)
 
-pub overflow_cast-size : goal.overflow_cast-size
-overflow_cast-size c = omega (arith, c.type_inv.octets c.args.place)
-
 pub returns-then-octets-place-2 : goal.returns-then-octets-place-2
 returns-then-octets-place-2 c =
     let args = c.args in
     c.no_block-then-octets-place-2.ensures ∙ none_there args.octets.now args.place (omega (arith, length_at args.octets.now args.place, c.if-octets-place-2.true))
-
-pub coded_block-requires : goal.coded_block-requires
-coded_block-requires c =
-    let args = c.args in
-    record { size_value = length_at args.octets.now args.place; size_in_bounds = omega arith }

@@ -1,8 +1,6 @@
 -- `fields::coded_block` meets its contract: whether the country code leaves room for the length of the provider code decides, then whether both codes
 -- fit.
 -- Assumes nothing.
-use native.Mathlib.Omega.{arith}
-use Prim.Native.Nat.{◌+◌}
 use mathlib.Core.Path.{◌∙◌}
 use Rattle.fields.proofs.Reading.{none_country, none_codes, block_there}
 use Rattle.fields.proofs.coded_block.Goals as goal
@@ -11,12 +9,6 @@ pub returns-then-size-country : goal.returns-then-size-country
 returns-then-size-country c =
     let args = c.args in
     c.no_block.ensures ∙ none_country args.octets.now args.place args.size c.requires.size_value c.country_size-country.result c.country_size-country.ensures.0 c.if-size-country.true
-
-pub overflow_cast-provider : goal.overflow_cast-provider
-overflow_cast-provider c = omega (arith, c.type_inv.octets (c.args.place + 1 + c.country_size-country.result))
-
-pub overflow_add-codes-2 : goal.overflow_add-codes-2
-overflow_add-codes-2 c = omega (arith, c.type_inv.octets (c.args.place + 1 + c.country_size-country.result))
 
 pub returns-then-size-codes : goal.returns-then-size-codes
 returns-then-size-codes c =

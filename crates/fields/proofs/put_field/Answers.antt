@@ -6,7 +6,7 @@ use Prim.Native.Nat.{ℕ, ◌-◌, ◌<◌, ◌≤◌}
 use mathlib.Core.Path.{◌≡◌, refl, sym, ap, ◌∙◌}
 use mathlib.Core.List.{List, [], ◌∷◌}
 use borrow.Rule.Slice.PartMut.{put_mid}
-use lib.ListN.{length, set, length-set}
+use lib.ListN.{length, set}
 use Rattle.laws.specs.Front.{front}
 use Rattle.laws.proofs.Rest.{front_length, lent_length, front_then}
 use Rattle.refusals.proofs.Outcomes.{meets_short, meets_put}
@@ -44,10 +44,6 @@ written c =
     front_then (category_octet field_tag 0 ∷ []) out _ 1 refl (omega (arith, room octets out size.result size.ensures c.if-size-gt0.true c.if-out-size.false, field_length octets (some octets out size.result size.ensures c.if-size-gt0.true c.if-out-size.false)))
     (first octets out size.result size.ensures c.if-size-gt0.true c.if-out-size.false _ c.category_octet.ensures) (packed octets) _ c.pack.ensures.buffer
     ∙ ap (λ (l : List ℕ). front l out) (sym (field_some octets (some octets out size.result size.ensures c.if-size-gt0.true c.if-out-size.false)))
-
-pub slice_bounds-pack-start : goal.slice_bounds-pack-start
-slice_bounds-pack-start c =
-    omega (arith, c.if-size-gt0.true, c.if-out-size.false, length-set c.args.out.now 0 c.category_octet.result)
 
 pub pack-requires : goal.pack-requires
 pack-requires c =

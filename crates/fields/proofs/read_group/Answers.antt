@@ -37,10 +37,6 @@ octets_are unpacked_at =
     ∙ take_at (unpacked extensions) _ count (omega (arith, unpacked_length extensions, unpacked_at.unpack-unpacked.ensures.count))
     ∙ ap unpacked (behind unpacked_at)
 
-pub is_packed-requires : goal.is_packed-requires
-is_packed-requires c =
-    record { left_value = left_is (goal.at.is_packed-requires c).After-unpack-unpacked; group_nonzero = c.requires.group_nonzero; group_len_bound = c.requires.group_len_bound }
-
 pub returns-then-not-is_packed : goal.returns-then-not-is_packed
 returns-then-not-is_packed c =
     let group = c.args.group.now in

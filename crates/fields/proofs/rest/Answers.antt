@@ -1,0 +1,6 @@
+-- `fields::rest` meets its contract: it is the part of that name.
+-- Assumes nothing.
+use Rattle.fields.proofs.rest.Goals as goal
+
+pub returns : goal.returns
+returns c = c.part_of.ensures
