@@ -1,5 +1,5 @@
 // What a call text looks like, and what each mistake in one lacks.
-use super::words::{STDOUT, Text};
+use super::text::{STDOUT, Text};
 
 // The help, up to the names.
 const HELP: &str = "\
@@ -63,7 +63,7 @@ fn put_in_end(text: Text) -> Text {
         .put_every(names::WANTED)
 }
 
-// A mistake, which plans counts as the header counts refusals: by a number.
+// A mistake, by its number: what the numbers are is laid down in plans.
 pub fn put_mistake(text: Text, what: u8) -> Text {
     match what {
         plans::BEGIN => text

@@ -2,10 +2,10 @@
 ghost use Rattle.std.specs.Prelude.{◌<◌, ◌≤◌, length};
 
 use super::line::{Line, Made, Told};
-use super::words;
-use super::words::Text;
+use super::text;
+use super::text::Text;
 use fields::{Block, Span};
-use menus::{Offer, ReadMenu};
+use menus::Offer;
 use refusals::Refusal;
 use steps::Session;
 
@@ -62,6 +62,7 @@ impl Event {
     }
 }
 
+// The word for a state. States, ends and choices are the numbers of steps, whose records C holds.
 fn state_word(state: u8) -> &'static str {
     match state {
         steps::CALLER_STILL => "still",
@@ -88,10 +89,7 @@ fn state_arrow(state: u8) -> &'static str {
 
 // What a menu offers; nothing where it cannot be read.
 pub fn offer_in(octets: &[u8]) -> Offer {
-    match menus::read(octets) {
-        ReadMenu::Offers(offer) => offer,
-        ReadMenu::Refused(_) => codes::no_offer(),
-    }
+    menus::read(octets).unwrap_or(codes::no_offer())
 }
 
 // The modes of an offer, as a set of names: the items, and behind them PCM.
@@ -172,7 +170,8 @@ fn row(line: &Line, event: Option<Event>, piece: &[u8]) -> Text {
     }
 }
 
-// What happens to an end, with the text for it, in as many rows as it takes; with no event, further rows of the last one.
+// What happens to an end, with the text for it, in as many rows as it takes; with no event, further rows of the last one. A while: where a
+// row begins is known from the one before.
 fn tell(line: &Line, event: Option<Event>, text: Text) {
     let mut event = event;
     let mut rest = text.bytes();
@@ -258,7 +257,7 @@ pub fn chosen(line: &Line, choice: u8) {
 }
 
 // A CM is not answered.
-pub fn not_answered(line: &Line, refusal: u8) {
+pub fn not_answered(line: &Line, refusal: Refusal) {
     let text = Text::of(" no JM,").put_refusal(refusal);
     tell(line, Some(Event::Heard(Told::NotAnswered(refusal))), text);
 }
@@ -281,7 +280,7 @@ fn put_part(text: Text, name: &str, lacking: &str, octets: &[u8]) -> Text {
 
 // Octets as characters, where there are some and all of them are printable.
 fn put_quoted(text: Text, octets: &[u8]) -> Text {
-    if octets.is_empty() || octets.iter().any(|b| words::shown(*b) != *b) {
+    if octets.is_empty() || octets.iter().any(|b| text::shown(*b) != *b) {
         return text;
     }
     text.put_words(" \"").put_bytes(octets).put(b'"')

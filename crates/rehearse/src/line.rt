@@ -6,7 +6,7 @@ use super::ladder;
 use listening::{Heard, Listener};
 use octets::{Kind, MOST_OCTETS};
 use plans::Plan;
-use refusals::{Refusal, Wrote};
+use refusals::Refusal;
 use steps::{Answer, Session};
 
 // How many bits an octet takes on the line.
@@ -22,7 +22,7 @@ const LAST_OF_CJ: usize = 689;
 
 const IDLE: usize = 690;
 
-// The octets of a menu or of a field.
+// The octets of a menu or of a field, in fixed memory.
 #[derive(Clone, Copy)]
 pub struct Made {
     octets: [u8; MOST_OCTETS],
@@ -40,14 +40,12 @@ impl Made {
     }
 
     // What a call writes into a buffer with room for a menu, or why it writes nothing.
-    pub fn by<F: FnOnce(&mut [u8]) -> Wrote>(write: F) -> Result<Made, Refusal>
+    pub fn by<F: FnOnce(&mut [u8]) -> Result<usize, Refusal>>(write: F) -> Result<Made, Refusal>
         requires { (out : _) → F.pre write out }
     {
         let mut octets = [0u8; MOST_OCTETS];
-        match write(&mut octets) {
-            Wrote::Count(len) => Ok(Made::new(octets, len)),
-            Wrote::Refused(refusal) => Err(refusal),
-        }
+        let len = write(&mut octets)?;
+        Ok(Made::new(octets, len))
     }
 
     pub fn octets(&self) -> &[u8] {
@@ -63,8 +61,8 @@ pub enum Told {
     Menu,
     Agreed,
     Cj,
-    Refused(u8),
-    NotAnswered(u8),
+    Refused(Refusal),
+    NotAnswered(Refusal),
 }
 
 impl Told {
@@ -79,14 +77,14 @@ impl Told {
     // What the next report may repeat: a menu that is not agreed is another each time, and so is a CI of several octets.
     fn repeatable(self) -> Option<Told> {
         match self {
-            Told::Menu => None,
-            Told::Ci(None) => None,
+            Told::Menu | Told::Ci(None) => None,
             _ => Some(self),
         }
     }
 }
 
-// What is sent outside calling: one copy of the menu, CJ and a 1, a byte for each bit; how many bits the copy has; the place of the next bit.
+// What is sent outside calling: one copy of the menu, CJ and a 1, a byte for each bit, at fixed places; how many bits the copy has; the
+// place of the next bit.
 #[derive(Clone, Copy)]
 struct Sending {
     bits: [u8; MOST_BITS],
@@ -108,8 +106,8 @@ impl Sending {
     fn of(menu: &Made) -> Sending {
         let mut sending = Sending::idle();
         let wrote = sequences::write(Kind::Menu, menu.octets(), 1, &mut sending.bits);
-        sending.len = count_of(wrote);
-        sequences::write_cj(&mut sending.bits[CJ_AT..]);
+        sending.len = wrote.unwrap_or(0);
+        let _ = sequences::write_cj(&mut sending.bits[CJ_AT..]);
         sending
     }
 
@@ -117,8 +115,7 @@ impl Sending {
     // the sync are ten bits as well, and CJ follows.
     fn place(&self, state: u8) -> usize {
         match state {
-            steps::MENU => self.next,
-            steps::JOINT => self.next,
+            steps::MENU | steps::JOINT => self.next,
             steps::CLOSING if self.next % OCTET_BITS == 0 => self.next.max(CJ_AT),
             steps::CLOSING => self.next,
             _ => IDLE,
@@ -137,13 +134,6 @@ impl Sending {
     }
 }
 
-fn count_of(wrote: Wrote) -> usize {
-    match wrote {
-        Wrote::Count(n) => n,
-        Wrote::Refused(_) => 0,
-    }
-}
-
 // What a host keeps for each line: what is planned; the time of this bit; the CM or JM of this end, and what it sends of that; what the next
 // report may repeat; whether this end is on the line.
 #[derive(Clone, Copy)]
@@ -159,7 +149,7 @@ pub struct Line {
 }
 
 // The choice, as an event carries it.
-fn choose(cm: &[u8], jm: &[u8]) -> u8 {
+fn carried_choice(cm: &[u8], jm: &[u8]) -> u8 {
     codes::carried(codes::choice_code(choices::choice_of(cm, jm)))
 }
 
@@ -195,7 +185,7 @@ impl Line {
         self.session = stepped.session;
         if matches!(
             stepped.answer,
-            Answer::Entered(_) | Answer::Ended(_) | Answer::GoOn(_)
+            Ok(Answer::Entered(_) | Answer::Ended(_) | Answer::GoOn(_))
         ) {
             ladder::entered(self);
         }
@@ -263,7 +253,7 @@ impl Line {
     }
 
     // A CM for which no JM can be made, as where that would be too long: the session gets no event. Not told again for the next copy.
-    fn not_answered(&mut self, refusal: u8) {
+    fn not_answered(&mut self, refusal: Refusal) {
         let told = Some(Told::NotAnswered(refusal));
         if told != self.told {
             ladder::not_answered(self, refusal);
@@ -277,15 +267,15 @@ impl Line {
         match Made::by(|out| offers::make_jm(own, cm, out)) {
             Ok(jm) => {
                 self.set_menu(jm);
-                self.choose(steps::AGREED_CM, choose(cm, jm.octets()));
+                self.choose(steps::AGREED_CM, carried_choice(cm, jm.octets()));
             }
-            Err(refusal) => self.not_answered(refusals::refusal_number(refusal)),
+            Err(refusal) => self.not_answered(refusal),
         }
     }
 
     // The answer to the caller's CM.
     fn hear_jm(&mut self, jm: &[u8]) {
-        let choice = choose(self.menu.octets(), jm);
+        let choice = carried_choice(self.menu.octets(), jm);
         self.choose(steps::AGREED_JM, choice);
     }
 
@@ -307,19 +297,17 @@ impl Line {
     }
 
     // What the listener reports, with the octets that it keeps.
-    fn report(&mut self, report: Heard, heard: &[u8]) {
+    fn report(&mut self, report: Result<Heard, Refusal>, heard: &[u8]) {
         match report {
-            Heard::Nothing => {}
-            Heard::Ci(_) => self.tell(Told::ci(heard), heard),
-            Heard::Menu(_, true) => self.hear_agreed(heard),
-            Heard::Menu(_, false) => self.tell(Told::Menu, heard),
-            Heard::Cj => {
+            Ok(Heard::Nothing) => {}
+            Ok(Heard::Ci(_)) => self.tell(Told::ci(heard), heard),
+            Ok(Heard::Menu(_, true)) => self.hear_agreed(heard),
+            Ok(Heard::Menu(_, false)) => self.tell(Told::Menu, heard),
+            Ok(Heard::Cj) => {
                 self.tell(Told::Cj, &[]);
                 self.step(steps::CJ, 0);
             }
-            Heard::Refused(refusal) => {
-                self.tell(Told::Refused(refusals::refusal_number(refusal)), &[])
-            }
+            Err(refusal) => self.tell(Told::Refused(refusal), &[]),
         }
     }
 

@@ -7,16 +7,17 @@
 mod help;
 mod ladder;
 mod line;
-mod words;
+mod text;
 
 ghost use Rattle.std.specs.Prelude.{◌≡◌, ◌<◌, length};
 
 use line::{Line, Made};
 use octets::{Kind, MOST_OCTETS, Purpose};
-use plans::Plan;
-use refusals::{Refusal, Verdict};
-use steps::{Session, Started};
-use words::Text;
+use plans::{Mistake, Plan};
+use printing::Page;
+use refusals::Refusal;
+use steps::Session;
+use text::Text;
 
 // The number of standard input.
 const STDIN: i32 = 0;
@@ -127,9 +128,14 @@ fn put_ladder(plan: Plan, first: Session, cm: Made, damaged: &[u8]) {
 
 // The plan as it was understood.
 fn put_plan(plan: Plan, cm: &[u8], blocks: &[u8], damaged: &[u8]) {
-    let mut page = room();
-    let n = plans::put_plan(&mut page, 0, plan, cm, blocks, damaged);
-    io::write_all(words::STDOUT, &page[..n.min(ROOM)]);
+    let mut text = room();
+    let mut page = Page {
+        out: &mut text,
+        at: 0,
+    };
+    plans::put_plan(&mut page, plan, cm, blocks, damaged);
+    let len = page.at.min(ROOM);
+    io::write_all(text::STDOUT, &text[..len]);
 }
 
 // The function that CI names: that of CM, or data where a stranger's CM calls for none of the six.
@@ -145,7 +151,7 @@ fn called(cm: &[u8]) -> u8 {
 fn put_started(plan: Plan, cm: Made, damaged: &[u8]) {
     let function = called(cm.octets());
     let started = steps::start_caller(0, u32::from(plan.te), function, plan.on, plan.off);
-    if let Started::Ready(first) = started {
+    if let Ok(first) = started {
         put_ladder(plan, first, cm, damaged);
     }
 }
@@ -187,7 +193,7 @@ fn given(text: &[u8], whose: u8) -> Made {
 
 // Why the CM that a text gives cannot be sent.
 fn unsent(refusal: Refusal) -> Text {
-    Text::of("the CM that is given cannot be sent,").put_refusal(refusals::refusal_number(refusal))
+    Text::of("the CM that is given cannot be sent,").put_refusal(refusal)
 }
 
 // The call of a stranger, where the CM that the text gives can be sent.
@@ -196,8 +202,8 @@ fn call_given(text: &[u8], plan: Plan) {
     let count = plans::put_octets_of(text, plans::OF_CM, &mut octets);
     let cm = &octets[..count.min(MOST_GIVEN)];
     match octets::test(Purpose::Writing(Kind::Menu), cm) {
-        Verdict::Accepted => put_call(text, plan, &[], given(text, plans::OF_CM)),
-        Verdict::Refused(refusal) => unsent(refusal).say(),
+        Ok(()) => put_call(text, plan, &[], given(text, plans::OF_CM)),
+        Err(refusal) => unsent(refusal).say(),
     }
 }
 
@@ -234,20 +240,19 @@ fn place(text: &[u8], at: usize) -> Text {
 }
 
 // A mistake; a text that lacks a line has no place for it.
-fn mistake(text: &[u8], what: u8, at: usize) -> Text {
-    let before = match what {
+fn mistake_text(text: &[u8], mistake: Mistake) -> Text {
+    let before = match mistake.what {
         plans::NO_CALLER | plans::NO_ANSWERER | plans::NO_CALL => Text::blank(),
-        _ => place(text, at),
+        _ => place(text, mistake.at),
     };
-    help::put_mistake(before, what)
+    help::put_mistake(before, mistake.what)
 }
 
 // A text: its call, or the first mistake in it.
 fn rehearse(text: &[u8]) {
-    let read = plans::read(text);
-    match read.what {
-        0 => call(text, read.plan),
-        what => mistake(text, what, read.at).say(),
+    match plans::read(text) {
+        Ok(plan) => call(text, plan),
+        Err(mistake) => mistake_text(text, mistake).say(),
     }
 }
 

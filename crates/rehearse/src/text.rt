@@ -1,7 +1,8 @@
-// Texts as they are put together, and the words that more than one part of the program says. A text is a value: it is handed on and comes
-// back longer, which is proved in far less time than a page that is lent from function to function.
+// Texts as they are put together. A text is a value: it is handed on and comes back longer, which is proved in far less time than a page
+// that is lent from function to function.
 ghost use Rattle.std.specs.Prelude.{◌<◌, ◌≤◌};
 
+use printing::Page;
 use refusals::Refusal;
 
 // The number of standard output.
@@ -16,7 +17,7 @@ const LAST: usize = ROOM - 1;
 // The set of every name of a kind.
 const EVERY: u16 = 65535;
 
-// A text: its bytes, with blanks behind them, and where the next one stands.
+// A text: its bytes, with blanks behind them, and where the next one stands. Its memory is fixed, as all of the program's.
 #[derive(Clone, Copy)]
 pub struct Text {
     bytes: [u8; ROOM],
@@ -80,12 +81,24 @@ impl Text {
         bytes.iter().fold(self, |text, b| text.put(shown(*b)))
     }
 
+    // What is written on a page that begins behind the text.
+    fn on_page<F: FnOnce(&mut Page<'_>)>(self, write: F) -> Text
+        requires { (page : _) → F.pre write page }
+    {
+        let mut text = self;
+        let at = text.len;
+        let mut page = Page {
+            out: &mut text.bytes,
+            at,
+        };
+        write(&mut page);
+        text.len = page.at;
+        text
+    }
+
     // An octet in hex digits, with a blank before it.
     fn put_octet(self, octet: u8) -> Text {
-        let mut text = self.put(b' ');
-        let at = text.len;
-        text.len = printing::put_octet(&mut text.bytes, at, octet);
-        text
+        self.put(b' ').on_page(|page| page.put_octet(octet))
     }
 
     // Octets, a blank before each.
@@ -97,23 +110,18 @@ impl Text {
 
     // A number in decimal digits.
     pub fn put_number(self, number: u64) -> Text {
-        let mut text = self;
-        let at = text.len;
-        text.len = printing::put_decimal(&mut text.bytes, at, number);
-        text
+        self.on_page(|page| page.put_decimal(number))
     }
 
     // A refusal, by its number.
-    pub fn put_refusal(self, refusal: u8) -> Text {
-        self.put_words(" refusal ").put_number(u64::from(refusal))
+    pub fn put_refusal(self, refusal: Refusal) -> Text {
+        self.put_words(" refusal ")
+            .put_number(u64::from(u8::from(refusal)))
     }
 
     // The names of a kind that are in a set, a blank before each.
     pub fn put_names(self, kind: u8, set: u16) -> Text {
-        let mut text = self;
-        let at = text.len;
-        text.len = names::put_names(&mut text.bytes, at, kind, set);
-        text
+        self.on_page(|page| names::put_names(page, kind, set))
     }
 
     // Every name of a kind.
