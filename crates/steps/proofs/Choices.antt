@@ -12,7 +12,10 @@ use Rattle.steps.specs.declared.Session.{Session}
 use Rattle.steps.specs.declared.Row.{Row}
 use Rattle.steps.specs.declared.To.{To}
 use Rattle.std.specs.Prelude.{Option, Some}
-use Rattle.steps.specs.Table.{menu, over, going, left, cleared, not_offered, goes_on, agreed_jm, agreed_cm, tick, none_chosen, jm_refused, rows}
+use Rattle.steps.specs.Table.{menu, over, going, left, cleared, not_offered, goes_on, agreed_jm, agreed_cm, tick, rows, same_condition}
+use Rattle.steps.specs.declared.Condition.{Condition}
+use Rattle.steps.specs.declared.Condition.TheVariants.{JmRefused, NoneChosen}
+use Rattle.steps.proofs.Known.{asked_is}
 use Rattle.steps.specs.Session.{between, is_mode, is_choice, early, in_range}
 use Rattle.steps.specs.Stepping.{same, entered, ended, go_on, StepOutcome, refused_with_11, holds, elapsed, applies, find_row, chosen_after, renewed, ended_as, row_taken, remembered, moved, refused_step, timed, stepped_in, stepped}
 use Rattle.steps.specs.Runs.{Timed, Act, happens, asks, next, value_of, run, enters_agreed, none_agreed, Brought, here, later}
@@ -34,7 +37,7 @@ once r = when (early r.state) true (both (not (agrees r)) (both (not (early r.to
 
 -- an agreed menu leads behind it, an agreed JM from menu, or was refused with 11
 abbrev brings : Row → Bool
-brings r = when (agrees r) (both (by_menu r.event) (both (not (early r.to.0)) (when (eqb r.event agreed_jm) (eqb r.state menu) true))) (when (by_menu r.event) (both (eqb r.condition jm_refused) (eqb r.event agreed_jm)) true)
+brings r = when (agrees r) (both (by_menu r.event) (both (not (early r.to.0)) (when (eqb r.event agreed_jm) (eqb r.state menu) true))) (when (by_menu r.event) (both (same_condition r.condition JmRefused) (eqb r.event agreed_jm)) true)
 
 -- going on is for a tick
 abbrev on_tick : Row → Bool
@@ -65,9 +68,9 @@ none_by : (a b w : Bool) (value was : ℕ) → a ≡ true → w ≡ true → whe
 unfolding when
 none_by a b w value was e f = simp (e, f)
 
-refused_by : (condition : ℕ) (s : Session) (value passed : ℕ) → T (eqb condition jm_refused) → holds condition s value passed ≡ true → eqb value refused_with_11 ≡ true
+refused_by : (condition : Condition) (s : Session) (value passed : ℕ) → T (same_condition condition JmRefused) → holds condition s value passed ≡ true → eqb value refused_with_11 ≡ true
 unfolding when
-refused_by condition s value passed t h = subst (λ (w : ℕ). holds w s value passed ≡ true) (eqb→eq condition jm_refused t) h
+refused_by condition s value passed t h = subst (λ (w : Condition). holds w s value passed ≡ true) (asked_is condition JmRefused (is_so _ t)) h
 
 -- what a row is answered
 agreed_by : (o g : Bool) (state how chosen : ℕ) → enters_agreed (when o (when g (go_on chosen) (ended how)) (entered state)) ≡ when o false (enters_agreed (entered state))
@@ -251,7 +254,7 @@ goes_on_as_brought s acts t c h none e =
 
 -- closing and joint, which an agreed menu leads to, alone lead to cleared, and only where none is chosen
 abbrev clears_on_none : Row → Bool
-clears_on_none r = when (eqb r.to.1 cleared) (both (eqb r.condition none_chosen) (not (by_menu r.event))) true
+clears_on_none r = when (eqb r.to.1 cleared) (both (same_condition r.condition NoneChosen) (not (by_menu r.event))) true
 
 abbrev clears_settled : Row → Bool
 clears_settled r = when (enters_agreed (entered r.state)) true (when (agrees r) true (both (not (eqb r.to.1 cleared)) (not (enters_agreed (entered r.to.0)))))
@@ -270,9 +273,9 @@ cleared_by true true how e = clash (sym e)
 cleared_by true false how e = clash (sym e)
 cleared_by false none how e = e
 
-none_chosen_lem : (condition : ℕ) (s : Session) (value passed : ℕ) → T (eqb condition none_chosen) → holds condition s value passed ≡ true → eqb s.chosen 0 ≡ true
+none_chosen_lem : (condition : Condition) (s : Session) (value passed : ℕ) → T (same_condition condition NoneChosen) → holds condition s value passed ≡ true → eqb s.chosen 0 ≡ true
 unfolding when
-none_chosen_lem condition s value passed t h = subst (λ (w : ℕ). holds w s value passed ≡ true) (eqb→eq condition none_chosen t) h
+none_chosen_lem condition s value passed t h = subst (λ (w : Condition). holds w s value passed ≡ true) (asked_is condition NoneChosen (is_so _ t)) h
 
 -- no menu is agreed yet, and the session is not cleared
 record Waits (s : Session) : Type 0 where
@@ -296,7 +299,7 @@ module _ (s : Session) (event value now : ℕ) where
       record {
         none = λ _ e.
             let row = taken_if (eqb r.to.1 cleared) _ true (both_left (clears_on_none r) (clears_settled r) tested) (says e) in
-            kept_by _ _ _ _ s.chosen (sym (ap by_menu taking.row.on) ∙ is_not _ (both_right (eqb r.condition none_chosen) _ row))
+            kept_by _ _ _ _ s.chosen (sym (ap by_menu taking.row.on) ∙ is_not _ (both_right (same_condition r.condition NoneChosen) _ row))
             ∙ eqb-true _ _ (none_chosen_lem r.condition s value _ (both_left _ _ row) taking.row.holding);
         waits = λ a w.
             let row = left_if (agrees r) true _ (left_if (enters_agreed (entered r.state)) true _ (both_right (clears_on_none r) (clears_settled r) tested) (ap (λ (state : ℕ). enters_agreed (entered state)) taking.row.state ∙ w.before)) (sym answered ∙ a) in

@@ -19,7 +19,10 @@ use Rattle.steps.specs.declared.Session.{Session}
 use Rattle.steps.specs.declared.Row.{Row}
 use Rattle.steps.specs.declared.To.{To}
 use Rattle.steps.specs.Table as table
-use Rattle.steps.specs.Table.{calling, quiet, over, going, ansam, ans, tick, nothing_left, no_tone, rows}
+use Rattle.steps.specs.Table.{calling, quiet, over, going, ansam, ans, tick, rows, same_condition}
+use Rattle.steps.specs.declared.Condition.{Condition}
+use Rattle.steps.specs.declared.Condition.TheVariants.{NoTone, NothingLeft}
+use Rattle.steps.proofs.Known.{asked_is}
 use Rattle.steps.specs.Session.{caller, in_range}
 use Rattle.steps.specs.Stepping.{StepOutcome, elapsed, holds, applies, find_row, renewed, row_taken, remembered, timed, stepped_in, stepped}
 use Rattle.steps.specs.Drawing.{DrawOutcome, drawing, drawn}
@@ -138,7 +141,7 @@ some_tone = by_tone (λ (e : ℕ). e ≡ 0 → ⊥) (λ z. omega (arith, z)) (λ
 
 -- the rows that ask for no tone yet
 abbrev first : Row → Bool
-first r = either (eqb r.condition nothing_left) (eqb r.condition no_tone)
+first r = either (same_condition r.condition NothingLeft) (same_condition r.condition NoTone)
 
 -- no row leads back to calling, one that stays there asks for no tone yet, and so does each for ANSam or ANS
 abbrev row_behind : Row → Bool
@@ -155,9 +158,9 @@ toneless : (r : Row) (s : Session) (value passed : ℕ) → first r ≡ true →
 unfolding when
 toneless r s value passed is h =
     ⊎_elim
-    (λ e. eqb-true _ _ (both_true _ _ (subst (λ (w : ℕ). holds w s value passed ≡ true) (eqb-true r.condition nothing_left e) h)).0)
-    (λ e. eqb-true _ _ (subst (λ (w : ℕ). holds w s value passed ≡ true) (eqb-true r.condition no_tone e) h))
-    (either_true (eqb r.condition nothing_left) (eqb r.condition no_tone) is)
+    (λ e. eqb-true _ _ (both_true _ _ (subst (λ (w : Condition). holds w s value passed ≡ true) (asked_is r.condition NothingLeft e) h)).0)
+    (λ e. eqb-true _ _ (subst (λ (w : Condition). holds w s value passed ≡ true) (asked_is r.condition NoTone e) h))
+    (either_true (same_condition r.condition NothingLeft) (same_condition r.condition NoTone) is)
 
 -- in calling, once a tone is remembered: since when, and how many bits are left
 pub record Ending (tone entry n : ℕ) (s : Session) : Type 0 where

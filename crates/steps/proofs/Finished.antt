@@ -7,7 +7,10 @@ use Rattle.laws.proofs.Logic.{both_true, clash}
 use Rattle.cadence.specs.Giving.{left}
 use Rattle.steps.specs.declared.Session.{Session}
 use Rattle.steps.specs.declared.Row.{Row}
-use Rattle.steps.specs.Table.{quiet, menu, nothing_left, behind_ansam, rows}
+use Rattle.steps.specs.Table.{quiet, menu, rows, same_condition}
+use Rattle.steps.specs.declared.Condition.{Condition}
+use Rattle.steps.specs.declared.Condition.TheVariants.{BehindAnsam, NothingLeft}
+use Rattle.steps.proofs.Known.{asked_is}
 use Rattle.steps.specs.Session.{in_range}
 use Rattle.steps.specs.Stepping.{StepOutcome, holds, elapsed}
 use Rattle.steps.specs.Drawing.{DrawOutcome}
@@ -22,8 +25,8 @@ is_behind state = either (eqb state quiet) (eqb state menu)
 abbrev pub HasSent : Session → Type 0
 HasSent s = is_behind s.state ≡ true → left s.cadence ≡ 0
 
-abbrev asks_sent : ℕ → Bool
-asks_sent condition = either (eqb condition nothing_left) (eqb condition behind_ansam)
+abbrev asks_sent : Condition → Bool
+asks_sent condition = either (same_condition condition NothingLeft) (same_condition condition BehindAnsam)
 
 abbrev row_sends : Row → Bool
 row_sends r = when (is_behind r.to.0) (either (asks_sent r.condition) (is_behind r.state)) true
@@ -32,13 +35,13 @@ rows_send : T (every row_sends rows)
 unfolding when either both every rows
 rows_send = tt
 
-asks_sent_lem : (condition : ℕ) (s : Session) (value passed : ℕ) → asks_sent condition ≡ true → holds condition s value passed ≡ true → left s.cadence ≡ 0
+asks_sent_lem : (condition : Condition) (s : Session) (value passed : ℕ) → asks_sent condition ≡ true → holds condition s value passed ≡ true → left s.cadence ≡ 0
 unfolding when
 asks_sent_lem condition s value passed asked h =
     ⊎_elim
-    (λ e. eqb-true _ _ (both_true _ _ (subst (λ (w : ℕ). holds w s value passed ≡ true) (eqb-true condition nothing_left e) h)).1)
-    (λ e. eqb-true _ _ (both_true _ _ (subst (λ (w : ℕ). holds w s value passed ≡ true) (eqb-true condition behind_ansam e) h)).1)
-    (either_true (eqb condition nothing_left) (eqb condition behind_ansam) asked)
+    (λ e. eqb-true _ _ (both_true _ _ (subst (λ (w : Condition). holds w s value passed ≡ true) (asked_is condition NothingLeft e) h)).1)
+    (λ e. eqb-true _ _ (both_true _ _ (subst (λ (w : Condition). holds w s value passed ≡ true) (asked_is condition BehindAnsam e) h)).1)
+    (either_true (same_condition condition NothingLeft) (same_condition condition BehindAnsam) asked)
 
 next_has_sent : (s : Session) (a : Act) → in_range s ≡ true → HasSent s → HasSent (next s a).session
 unfolding left either

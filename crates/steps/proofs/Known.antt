@@ -1,8 +1,11 @@
 -- What a test says whose outcome is known.
 -- Assumes nothing.
-use Rattle.std.proofs.Common.{◌≡◌, Bool, true, false, not, T, ◌⊎◌, sym, refl, inl, inr}
+use Rattle.std.proofs.Common.{◌≡◌, ◌<◌, lit<, ℕ, eqb-true, get_or, ap, ◌∙◌, [], ◌∷◌, Bool, true, false, not, T, ◌⊎◌, sym, refl, inl, inr}
 use Rattle.laws.specs.Logic.{when, both, either}
 use Rattle.laws.proofs.Logic.{clash}
+use Rattle.steps.specs.declared.Condition.{Condition}
+use Rattle.steps.specs.declared.Condition.TheVariants.{Always, TeElapsed, NoneChosen, JmRefused, ChosenItem, NothingLeft, NoTone, BehindAnsam, BehindAns}
+use Rattle.steps.specs.Table.{condition_number, same_condition}
 
 pub is_so : (t : Bool) → T t → t ≡ true
 is_so true h = refl
@@ -41,3 +44,32 @@ pub both_with : (a : Bool) → both a true ≡ a
 unfolding both
 both_with true = refl
 both_with false = refl
+
+-- a condition is known by its number
+abbrev condition_at : ℕ → Condition
+condition_at n = get_or (Always ∷ TeElapsed ∷ NoneChosen ∷ JmRefused ∷ ChosenItem ∷ NothingLeft ∷ NoTone ∷ BehindAnsam ∷ BehindAns ∷ []) n Always
+
+numbered : (c : Condition) → condition_at (condition_number c) ≡ c
+numbered Always = refl
+numbered TeElapsed = refl
+numbered NoneChosen = refl
+numbered JmRefused = refl
+numbered ChosenItem = refl
+numbered NothingLeft = refl
+numbered NoTone = refl
+numbered BehindAnsam = refl
+numbered BehindAns = refl
+
+pub one_of_nine : (c : Condition) → condition_number c < 9
+one_of_nine Always = lit< tt
+one_of_nine TeElapsed = lit< tt
+one_of_nine NoneChosen = lit< tt
+one_of_nine JmRefused = lit< tt
+one_of_nine ChosenItem = lit< tt
+one_of_nine NothingLeft = lit< tt
+one_of_nine NoTone = lit< tt
+one_of_nine BehindAnsam = lit< tt
+one_of_nine BehindAns = lit< tt
+
+pub asked_is : (a b : Condition) → same_condition a b ≡ true → a ≡ b
+asked_is a b same = sym (numbered a) ∙ ap condition_at (eqb-true _ _ same) ∙ numbered b

@@ -1,78 +1,80 @@
 -- What an event leads to, by the row that is taken: one law for every promise about steps.
 -- Assumes nothing.
-use Rattle.std.proofs.Common.{◌≡◌, ℕ, zero, suc, ◌+◌, ◌<◌, ◌≤◌, Bool, true, false, T, eqb, ltb, leb, List, [], ◌∷◌, get_or, drop, sym, refl, ◌∙◌, add-one, arith, lit≤, ltb→lt, drop-cons, eqb-true}
+use Rattle.std.proofs.Common.{◌≡◌, ℕ, ◌+◌, ◌<◌, ◌≤◌, Bool, true, false, T, eqb, leb, List, [], ◌∷◌, ◌++◌, length, get_or, drop, sym, refl, ◌∙◌, add-one, lit≤, drop-cons, eqb-true}
 use Rattle.laws.specs.Logic.{when, both}
-use Rattle.laws.specs.Tests.{all_below, every}
+use Rattle.laws.specs.Tests.{every}
 use Rattle.laws.proofs.Logic.{either_way, both_true}
-use Rattle.laws.proofs.Computed.{both_left, both_right, below}
+use Rattle.laws.proofs.Computed.{both_left, both_right}
 use Rattle.steps.specs.declared.Session.{Session}
 use Rattle.steps.specs.declared.Row.{Row}
 use Rattle.steps.specs.declared.To.{To}
 use Rattle.std.specs.Prelude.{Option, Some, None}
-use Rattle.steps.specs.Table.{rows}
+use Rattle.steps.specs.Table.{condition_number, rows}
+use Rattle.steps.specs.declared.Condition.{Condition}
+use Rattle.steps.specs.declared.Condition.TheVariants.{Always, TeElapsed, NoneChosen, JmRefused, ChosenItem, NothingLeft, NoTone, BehindAnsam, BehindAns}
 use Rattle.steps.specs.Session.{in_range}
-use Rattle.steps.specs.Inner.{what_holds, find_held, or_else}
+use Rattle.steps.specs.Inner.{what_holds, find_held}
 use Rattle.steps.specs.Stepping.{same, StepOutcome, elapsed, owns, carries, holds, row_fits, applies, find_row, renewed, row_taken, remembered, moved, refused_step, timed, stepped_in, stepped}
 
--- the table, read at a place
-row_at : (i : ℕ) (d : Row) → i < 23 → drop i rows ≡ get_or rows i d ∷ drop (i + 1) rows
-unfolding rows
-row_at i d h = rw add-one (drop-cons rows i d h)
-
--- there are nine conditions
-pub one_of_nine : (table : List Row) → table ≡ rows → (i : ℕ) (d : Row) → i < 23 → (get_or table i d).condition < 9
-unfolding rows all_below both
-one_of_nine table is i d h = rw is (ltb→lt _ 9 (below (λ k. ltb (get_or rows k d).condition 9) 23 tt i h))
-
--- what the condition of this number comes to
-held_at : (s : Session) (value passed k : ℕ) (d : Bool) → k < 9 → get_or (what_holds s value passed) k d ≡ holds k s value passed
-unfolding when
-held_at s value passed zero d h = refl
-held_at s value passed (suc zero) d h = refl
-held_at s value passed (suc (suc zero)) d h = refl
-held_at s value passed (suc (suc (suc zero))) d h = refl
-held_at s value passed (suc (suc (suc (suc zero)))) d h = refl
-held_at s value passed (suc (suc (suc (suc (suc zero))))) d h = refl
-held_at s value passed (suc (suc (suc (suc (suc (suc zero)))))) d h = refl
-held_at s value passed (suc (suc (suc (suc (suc (suc (suc zero))))))) d h = refl
-held_at s value passed (suc (suc (suc (suc (suc (suc (suc (suc zero)))))))) d h = refl
-held_at s value passed (suc (suc (suc (suc (suc (suc (suc (suc (suc k))))))))) d h = absurd (let z : ⊥ = omega (arith, h) in z)
+-- what a condition comes to stands at its number
+held_at : (c : Condition) (s : Session) (value passed : ℕ) → get_or (what_holds s value passed) (condition_number c) false ≡ holds c s value passed
+held_at Always s value passed = refl
+held_at TeElapsed s value passed = refl
+held_at NoneChosen s value passed = refl
+held_at JmRefused s value passed = refl
+held_at ChosenItem s value passed = refl
+held_at NothingLeft s value passed = refl
+held_at NoTone s value passed = refl
+held_at BehindAnsam s value passed = refl
+held_at BehindAns s value passed = refl
 
 -- looking rows up by what was found of each condition finds the first that applies
-held_finds : (s : Session) (event value passed : ℕ) (rs : List Row) → T (every (λ (r : Row). ltb r.condition 9) rs) → find_held s.state event passed (what_holds s value passed) rs ≡ find_row s event value passed rs
-unfolding find_held find_row applies every
-held_finds s event value passed [] t = refl
-held_finds s event value passed (r ∷ rs) t = rw (held_at s value passed r.condition false (ltb→lt _ 9 (both_left _ _ t)), held_finds s event value passed rs (both_right _ _ t)) refl
+held_finds : (s : Session) (event value passed : ℕ) (rs : List Row) → find_held s.state event passed (what_holds s value passed) rs ≡ find_row s event value passed rs
+unfolding find_held find_row applies
+held_finds s event value passed [] = refl
+held_finds s event value passed (r ∷ rs) = rw (held_at r.condition s value passed, held_finds s event value passed rs) refl
 
-all_of_nine : T (every (λ (r : Row). ltb r.condition 9) rows)
-unfolding every rows both
-all_of_nine = tt
+-- the first of two, where there is one
+abbrev or_else : Option To → Option To → Option To
+or_else (Some to) behind = Some to
+or_else None behind = behind
 
--- row i is found where its test says that it applies, and where not, the first behind it
-module _ (state event passed : ℕ) (held : List Bool) (table : List Row) (is : table ≡ rows) (i : ℕ) (d : Row) (h : i < 23) (test : Bool) (says : test ≡ row_fits (get_or table i d) state event passed (get_or held (get_or table i d).condition false)) where
-  pub found_at : test ≡ true → find_held state event passed held (drop i rows) ≡ Some (get_or table i d).to
-  unfolding find_held when
-  found_at a = rw (row_at i d h, ← is, ← says, a) refl
+by_test : (t : Bool) (to : To) (all first behind : Option To) → all ≡ or_else first behind → when t (Some to) all ≡ or_else (when t (Some to) first) behind
+unfolding when
+by_test true to all first behind e = refl
+by_test false to all first behind e = e
 
-  pub found_behind : test ≡ false → find_held state event passed held (drop i rows) ≡ find_held state event passed held (drop (i + 1) rows)
-  unfolding find_held when
-  found_behind a = rw (row_at i d h, ← is, ← says, a) refl
+module _ (state event passed : ℕ) (held : List Bool) where
+  -- row i is found where its test says that it applies, and where not, the first behind it
+  module _ (part : List Row) (i : ℕ) (d : Row) (within : i < length part) (test : Bool) (says : test ≡ row_fits (get_or part i d) state event passed (get_or held (condition_number (get_or part i d).condition) false)) where
+    row_at : drop i part ≡ get_or part i d ∷ drop (i + 1) part
+    row_at = rw add-one (drop-cons part i d within)
 
-or_nothing : (found : Option To) → or_else found None ≡ found
-or_nothing (Some to) = refl
-or_nothing None = refl
+    pub found_at : test ≡ true → find_held state event passed held (drop i part) ≡ Some (get_or part i d).to
+    unfolding find_held when
+    found_at applies = rw (row_at, ← says, applies) refl
 
--- what is found in the first part of the table, or else in the second, is the first row that applies
-module _ (s : Session) (event value passed : ℕ) (held : List Bool) (is : held ≡ what_holds s value passed) (early : Option To) (first : or_else early (find_held s.state event passed held (drop 12 rows)) ≡ find_held s.state event passed held rows) where
-  in_parts : or_else early (find_held s.state event passed held (drop 12 rows)) ≡ find_row s event value passed rows
-  in_parts = first ∙ rw is (held_finds s event value passed rows all_of_nine)
+    pub found_behind : test ≡ false → find_held state event passed held (drop i part) ≡ find_held state event passed held (drop (i + 1) part)
+    unfolding find_held when
+    found_behind not = rw (row_at, ← says, not) refl
 
-  pub found_early : (to : To) → early ≡ Some to → Some to ≡ find_row s event value passed rows
-  found_early to e = rw e at in_parts
+  -- what is found in a first part is found, and what is not there is looked for behind it
+  at_first : (first behind : List Row) → find_held state event passed held (first ++ behind) ≡ or_else (find_held state event passed held first) (find_held state event passed held behind)
+  unfolding find_held
+  at_first [] behind = refl
+  at_first (r ∷ rs) behind =
+      let holding = row_fits r state event passed (get_or held (condition_number r.condition) false) in
+      by_test holding r.to _ _ _ (at_first rs behind)
 
-  pub found_late : early ≡ None → (late : Option To) → or_else late (find_held s.state event passed held (drop 23 rows)) ≡ find_held s.state event passed held (drop 12 rows) → late ≡ find_row s event value passed rows
-  unfolding rows find_held
-  found_late e late second = sym (or_nothing late) ∙ second ∙ (rw e at in_parts)
+module _ (s : Session) (event value passed : ℕ) (held : List Bool) (is : held ≡ what_holds s value passed) (first behind : List Row) (parts : first ++ behind ≡ rows) where
+  in_parts : or_else (find_held s.state event passed held first) (find_held s.state event passed held behind) ≡ find_row s event value passed rows
+  in_parts = sym (at_first s.state event passed held first behind) ∙ rw (is, parts) (held_finds s event value passed rows)
+
+  pub found_early : (early : Option To) (to : To) → early ≡ find_held s.state event passed held first → early ≡ Some to → Some to ≡ find_row s event value passed rows
+  found_early early to found at = rw (← found, at) at in_parts
+
+  pub found_late : (early late : Option To) → early ≡ find_held s.state event passed held first → early ≡ None → late ≡ find_held s.state event passed held behind → late ≡ find_row s event value passed rows
+  found_late early late found none later = later ∙ rw (← found, none) at in_parts
 
 -- a row that applies is one of this state and this event, and what it asks for holds
 pub record Applies (s : Session) (event value passed : ℕ) (r : Row) : Type 0 where

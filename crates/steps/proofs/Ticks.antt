@@ -12,7 +12,10 @@ use Rattle.steps.specs.declared.Session.{Session}
 use Rattle.steps.specs.declared.Row.{Row}
 use Rattle.steps.specs.declared.To.{To}
 use Rattle.std.specs.Prelude.{Option, Some}
-use Rattle.steps.specs.Table.{caller_still, calling, quiet, over, tick, always, te_elapsed, behind_ansam, behind_ans, rows}
+use Rattle.steps.specs.Table.{caller_still, calling, quiet, over, tick, rows, same_condition}
+use Rattle.steps.specs.declared.Condition.{Condition}
+use Rattle.steps.specs.declared.Condition.TheVariants.{Always, TeElapsed, NoneChosen, JmRefused, ChosenItem, NothingLeft, NoTone, BehindAnsam, BehindAns}
+use Rattle.steps.proofs.Known.{asked_is}
 use Rattle.steps.specs.Session.{between, is_te, state_fits, end_fits, cadence_of, in_range, caller}
 use Rattle.steps.specs.Stepping.{StepOutcome, elapsed, is_sent, holds, applies, find_row, renewed, row_taken, remembered, moved, timed, stepped_in, stepped}
 use Rattle.steps.specs.Runs.{least, ticks, limit_in, limit, passes}
@@ -23,20 +26,20 @@ use Rattle.steps.proofs.Ranges.{range_fits, calls_by}
 -- "'Elapsed' is tested on a tick only": a row for a tick asks for elapsed time, Te or more than none, and for nothing else; and
 -- a row for another event asks for none. In calling a tick asks for a tone that is remembered, and for no time
 abbrev asks_time : Row → Bool
-asks_time r = when (eqb r.condition te_elapsed) (eqb r.least 0) (both (eqb r.condition always) (ltb 0 r.least))
+asks_time r = when (same_condition r.condition TeElapsed) (eqb r.least 0) (both (same_condition r.condition Always) (ltb 0 r.least))
 
 abbrev asks_none : Row → Bool
-asks_none r = both (eqb r.least 0) (not (eqb r.condition te_elapsed))
+asks_none r = both (eqb r.least 0) (not (same_condition r.condition TeElapsed))
 
 abbrev asks_tone : Row → Bool
-asks_tone r = either (eqb r.condition behind_ansam) (eqb r.condition behind_ans)
+asks_tone r = either (same_condition r.condition BehindAnsam) (same_condition r.condition BehindAns)
 
 abbrev timely : Row → Bool
 timely r = when (eqb r.event tick) (when (eqb r.state calling) (both (asks_none r) (asks_tone r)) (asks_time r)) (asks_none r)
 
 -- Te is asked for in quiet alone
 abbrev te_in_quiet : Row → Bool
-te_in_quiet r = when (eqb r.condition te_elapsed) (eqb r.state quiet) true
+te_in_quiet r = when (same_condition r.condition TeElapsed) (eqb r.state quiet) true
 
 -- a row for a tick leaves its state, and leads to calling from the start alone
 abbrev leaves : Row → Bool
@@ -62,14 +65,27 @@ unfolding when both either all_below rows has_tick
 states_tick = tt
 
 -- what a row for a tick asks for comes to its time
-least_by : (te : Bool) (condition n wait passed : ℕ) (rest : Bool) → T (when te (eqb n 0) (both (eqb condition always) (ltb 0 n))) → (eqb condition always ≡ true → rest ≡ true) → both (leb n passed) (when te (leb wait passed) rest) ≡ leb (when te wait n) passed
+least_by : (te : Bool) (condition : Condition) (n wait passed : ℕ) (rest : Bool) → T (when te (eqb n 0) (both (same_condition condition Always) (ltb 0 n))) → (same_condition condition Always ≡ true → rest ≡ true) → both (leb n passed) (when te (leb wait passed) rest) ≡ leb (when te wait n) passed
 unfolding when both
 least_by true condition n wait passed rest t e = rw (le-leb n passed (omega (arith, eqb→eq n 0 t)))
-least_by false condition n wait passed rest t e = rw (e (is_so _ (both_left (eqb condition always) (ltb 0 n) t))) (both_with (leb n passed))
+least_by false condition n wait passed rest t e = rw (e (is_so _ (both_left (same_condition condition Always) (ltb 0 n) t))) (both_with (leb n passed))
+
+te_or : (c : Condition) (s : Session) (value passed : ℕ) → holds c s value passed ≡ when (same_condition c TeElapsed) (leb s.te passed) (holds c s value passed)
+unfolding when
+te_or Always s value passed = refl
+te_or TeElapsed s value passed = refl
+te_or NoneChosen s value passed = refl
+te_or JmRefused s value passed = refl
+te_or ChosenItem s value passed = refl
+te_or NothingLeft s value passed = refl
+te_or NoTone s value passed = refl
+te_or BehindAnsam s value passed = refl
+te_or BehindAns s value passed = refl
 
 holds_least : (r : Row) (s : Session) (value passed : ℕ) → T (asks_time r) → both (leb r.least passed) (holds r.condition s value passed) ≡ leb (least r s) passed
-unfolding when
-holds_least r s value passed t = least_by (eqb r.condition te_elapsed) r.condition r.least s.te passed _ t (λ a. rw (eqb-true r.condition always a))
+holds_least r s value passed t =
+    ap (both (leb r.least passed)) (te_or r.condition s value passed)
+    ∙ least_by (same_condition r.condition TeElapsed) r.condition r.least s.te passed _ t (λ a. rw (asked_is r.condition Always a) refl)
 
 -- one row of the search for a tick's row, by its tests: of the state, of the tick, of the time
 tick_by : (a b h k : Bool) (P : Option To → Type 0) (x y : Option To) (m n passed : ℕ) → (a ≡ true → b ≡ true → h ≡ leb m passed) → T (either (both a b) k) → leb (when (both a b) m n) passed ≡ true → (a ≡ true → b ≡ true → h ≡ true → P x) → (T k → leb n passed ≡ true → P y) → P (when (both a (both b h)) x y)
@@ -167,19 +183,19 @@ quiet_te end te state f e q =
     omega (arith, (between_true 500 5000 te (te_by (eqb end caller) te _ own e)).0)
 
 -- at the entry time no row for a tick applies that asks for time
-least_some : (te : Bool) (condition n wait : ℕ) → T (when te (eqb n 0) (both (eqb condition always) (ltb 0 n))) → (te ≡ true → 0 < wait) → 0 < when te wait n
+least_some : (te : Bool) (condition : Condition) (n wait : ℕ) → T (when te (eqb n 0) (both (same_condition condition Always) (ltb 0 n))) → (te ≡ true → 0 < wait) → 0 < when te wait n
 unfolding when
 least_some true condition n wait t q = q refl
-least_some false condition n wait t q = ltb→lt 0 n (both_right (eqb condition always) (ltb 0 n) t)
+least_some false condition n wait t q = ltb→lt 0 n (both_right (same_condition condition Always) (ltb 0 n) t)
 
 -- nor one that asks for a tone where none is remembered
 toneless : (r : Row) (s : Session) (value passed : ℕ) → T (asks_tone r) → s.cadence.tone ≡ 0 → holds r.condition s value passed ≡ true → ⊥
 unfolding when
 toneless r s value passed asked none h =
     ⊎_elim
-    (λ e. tone_apart 1 (λ z. omega (arith, z)) (subst (λ (w : ℕ). holds w s value passed ≡ true) (eqb-true r.condition behind_ansam e) h))
-    (λ e. tone_apart 2 (λ z. omega (arith, z)) (subst (λ (w : ℕ). holds w s value passed ≡ true) (eqb-true r.condition behind_ans e) h))
-    (either_true (eqb r.condition behind_ansam) (eqb r.condition behind_ans) (is_so _ asked))
+    (λ e. tone_apart 1 (λ z. omega (arith, z)) (subst (λ (w : Condition). holds w s value passed ≡ true) (asked_is r.condition BehindAnsam e) h))
+    (λ e. tone_apart 2 (λ z. omega (arith, z)) (subst (λ (w : Condition). holds w s value passed ≡ true) (asked_is r.condition BehindAns e) h))
+    (either_true (same_condition r.condition BehindAnsam) (same_condition r.condition BehindAns) (is_so _ asked))
   where
     tone_apart : (tone : ℕ) → (tone ≡ 0 → ⊥) → is_sent tone s.cadence ≡ true → ⊥
     tone_apart tone some sent = some (sym (eqb-true _ _ (both_true (eqb s.cadence.tone tone) _ sent).0) ∙ none)
@@ -202,7 +218,7 @@ tick_at_entry s value now fresh =
     untimely r taking tested asked =
         let f = range_fits s taking.inside in
         let te = both_left (te_in_quiet r) (leaves r) (both_right (timely r) _ tested) in
-        let some = least_some (eqb r.condition te_elapsed) r.condition r.least s.te asked (λ q. quiet_te s.end s.te s.state f.state f.end (sym taking.row.state ∙ eqb→eq _ _ (taken_if (eqb r.condition te_elapsed) (eqb r.state quiet) true te q))) in
+        let some = least_some (same_condition r.condition TeElapsed) r.condition r.least s.te asked (λ q. quiet_te s.end s.te s.state f.state f.end (sym taking.row.state ∙ eqb→eq _ _ (taken_if (same_condition r.condition TeElapsed) (eqb r.state quiet) true te q))) in
         let passed : leb (least r s) (elapsed now s.entry) ≡ true = sym (holds_least r s value (elapsed now s.entry) asked) ∙ simp (taking.row.waited, taking.row.holding) in
         omega (arith, some, none, leb-true (least r s) (elapsed now s.entry) passed)
 

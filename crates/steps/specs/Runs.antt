@@ -6,7 +6,8 @@ use Rattle.refusals.specs.Lent.{Said, count}
 use Rattle.refusals.specs.Lent as lent
 use Rattle.steps.specs.declared.Session.{Session}
 use Rattle.steps.specs.declared.Row.{Row}
-use Rattle.steps.specs.Table.{calling, closing, joint, over, tick, te_elapsed, rows}
+use Rattle.steps.specs.declared.Condition.TheVariants.{TeElapsed}
+use Rattle.steps.specs.Table.{calling, closing, joint, over, tick, same_condition, rows}
 use Rattle.steps.specs.Stepping.{Answered, same, entered, ended, go_on, refusal, StepOutcome, stepped}
 use Rattle.steps.specs.Drawing.{drawn}
 
@@ -70,7 +71,7 @@ pub data Brought : Session → List Act → ℕ → Type 0 where
 
 -- the time that a row asks for
 abbrev pub least : Row → Session → ℕ
-least r s = when (r.condition == te_elapsed) s.te r.least
+least r s = when (same_condition r.condition TeElapsed) s.te r.least
 
 -- a row of this state for a tick
 abbrev pub ticks : ℕ → Row → Bool

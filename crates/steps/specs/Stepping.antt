@@ -8,11 +8,13 @@ use Rattle.cadence.specs.Giving.{left, remembering}
 use Rattle.steps.specs.declared.Session.{Session}
 use Rattle.steps.specs.declared.Row.{Row}
 use Rattle.steps.specs.declared.To.{To}
+use Rattle.steps.specs.declared.Condition.{Condition}
+use Rattle.steps.specs.declared.Condition.TheVariants.{Always, TeElapsed, NoneChosen, JmRefused, ChosenItem, NothingLeft, NoTone, BehindAnsam, BehindAns}
 use Rattle.steps.specs.declared.Answer.{Answer}
 use Rattle.steps.specs.declared.Answer.TheVariants.{Same, Entered, Ended, GoOn}
 use Rattle.steps.specs.declared.Stepped.{Stepped}
 use Rattle.steps.specs.Table as table
-use Rattle.steps.specs.Table.{over, goes_on, ansam, ans, agreed_jm, cj_sent, agreed_cm, sig_c, cj, tick, te_elapsed, none_chosen, jm_refused, chosen_item, nothing_left, no_tone, behind_ansam, behind_ans, rows}
+use Rattle.steps.specs.Table.{over, goes_on, ansam, ans, agreed_jm, cj_sent, agreed_cm, sig_c, cj, tick, rows}
 use Rattle.steps.specs.Session.{is_item, is_choice, of_end, in_range}
 
 -- what an event is answered: "same", the state entered, how the session ended, the choice to go on with, or a refusal's number
@@ -70,17 +72,16 @@ abbrev pub is_sent : ℕ → Cadence → Bool
 is_sent tone c = both (c.tone == tone) (left c == 0)
 
 -- what else a row asks for: "elapsed Te", "choice none", "refused with 11", "sigC of the chosen item", what was heard and sent, or nothing
-abbrev pub holds : ℕ → Session → ℕ → ℕ → Bool
-holds condition s value passed =
-    when (condition == te_elapsed) (nat_le s.te passed)
-    (when (condition == none_chosen) (s.chosen == 0)
-    (when (condition == jm_refused) (value == refused_with_11)
-    (when (condition == chosen_item) (value == s.chosen)
-    (when (condition == nothing_left) (is_sent 0 s.cadence)
-    (when (condition == no_tone) (s.cadence.tone == 0)
-    (when (condition == behind_ansam) (is_sent ansam s.cadence)
-    (when (condition == behind_ans) (is_sent ans s.cadence)
-    true)))))))
+abbrev pub holds : Condition → Session → ℕ → ℕ → Bool
+holds Always s value passed = true
+holds TeElapsed s value passed = nat_le s.te passed
+holds NoneChosen s value passed = s.chosen == 0
+holds JmRefused s value passed = value == refused_with_11
+holds ChosenItem s value passed = value == s.chosen
+holds NothingLeft s value passed = is_sent 0 s.cadence
+holds NoTone s value passed = s.cadence.tone == 0
+holds BehindAnsam s value passed = is_sent ansam s.cadence
+holds BehindAns s value passed = is_sent ans s.cadence
 
 -- a row of this state and this event; "'Elapsed' .. means at least"
 abbrev pub row_fits : Row → ℕ → ℕ → ℕ → Bool → Bool

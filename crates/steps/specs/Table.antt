@@ -1,6 +1,8 @@
 -- Document 01, 'Steps': the table, and the numbers that stand for states, endings, events and what a row asks for.
-use Rattle.std.specs.Prelude.{ℕ, List, [], ◌∷◌}
+use Rattle.std.specs.Prelude.{ℕ, Bool, eqb, List, [], ◌∷◌}
 use Rattle.steps.specs.declared.Row.{Row}
+use Rattle.steps.specs.declared.Condition.{Condition}
+use Rattle.steps.specs.declared.Condition.TheVariants.{Always, TeElapsed, NoneChosen, JmRefused, ChosenItem, NothingLeft, NoTone, BehindAnsam, BehindAns}
 
 -- the states of both ends, by their line in the table; a session that is over stands below them
 abbrev pub caller_still : ℕ
@@ -80,73 +82,61 @@ cj = 8
 abbrev pub tick : ℕ
 tick = 9
 
--- what a row asks for besides its state, its event and elapsed time
-abbrev pub always : ℕ
-always = 0
+-- what a row asks for besides its state, its event and elapsed time, counted from 0. Document 02, Req 04: "nothing is left to send", and no tone
+-- was heard yet (`NothingLeft`); no tone was heard yet; ANSam or ANS was, and nothing is left
+abbrev pub condition_number : Condition → ℕ
+condition_number Always = 0
+condition_number TeElapsed = 1
+condition_number NoneChosen = 2
+condition_number JmRefused = 3
+condition_number ChosenItem = 4
+condition_number NothingLeft = 5
+condition_number NoTone = 6
+condition_number BehindAnsam = 7
+condition_number BehindAns = 8
 
-abbrev pub te_elapsed : ℕ
-te_elapsed = 1
-
-abbrev pub none_chosen : ℕ
-none_chosen = 2
-
-abbrev pub jm_refused : ℕ
-jm_refused = 3
-
-abbrev pub chosen_item : ℕ
-chosen_item = 4
-
--- document 02, Req 04: "nothing is left to send", and no tone was heard yet; no tone was heard yet; ANSam or ANS was, and nothing is left
-abbrev pub nothing_left : ℕ
-nothing_left = 5
-
-abbrev pub no_tone : ℕ
-no_tone = 6
-
-abbrev pub behind_ansam : ℕ
-behind_ansam = 7
-
-abbrev pub behind_ans : ℕ
-behind_ans = 8
+-- whether one condition is another
+abbrev pub same_condition : Condition → Condition → Bool
+same_condition a b = eqb (condition_number a) (condition_number b)
 
 -- a line's state, its event, the milliseconds elapsed, what else it asks for, the next state, and how the session ended
-abbrev row : ℕ → ℕ → ℕ → ℕ → ℕ → ℕ → Row
+abbrev row : ℕ → ℕ → ℕ → Condition → ℕ → ℕ → Row
 row state event least condition next ended = record { to = record { 0 = next; 1 = ended }; state = state; event = event; least = least; condition = condition }
 
 -- "One constant table, by state and event, is the rule."; the first row that applies counts
 unfoldable pub rows : List Row
 rows =
     -- "elapsed 1,000: calling"
-    row caller_still tick 1000 always calling going
+    row caller_still tick 1000 Always calling going
     -- "ANSam: quiet. ANS or sigA: over, left"; document 02, Req 04: "with that event if nothing is left to send, else with the first tick after the
     -- last such bit". A row that leads to its own state remembers the tone
-    ∷ row calling ansam 0 nothing_left quiet going
-    ∷ row calling ansam 0 no_tone calling going
-    ∷ row calling ans 0 nothing_left over left
-    ∷ row calling ans 0 no_tone calling going
-    ∷ row calling tick 0 behind_ansam quiet going
-    ∷ row calling tick 0 behind_ans over left
-    ∷ row calling sig_a 0 always over left
+    ∷ row calling ansam 0 NothingLeft quiet going
+    ∷ row calling ansam 0 NoTone calling going
+    ∷ row calling ans 0 NothingLeft over left
+    ∷ row calling ans 0 NoTone calling going
+    ∷ row calling tick 0 BehindAnsam quiet going
+    ∷ row calling tick 0 BehindAns over left
+    ∷ row calling sig_a 0 Always over left
     -- "elapsed Te: menu (sends CM)"
-    ∷ row quiet tick 0 te_elapsed menu going
+    ∷ row quiet tick 0 TeElapsed menu going
     -- "agreed JM: closing (sends CJ); where the choice is refused with 11: over, not offered. Elapsed 10,000 (house): over, late"
-    ∷ row menu agreed_jm 0 jm_refused over not_offered
-    ∷ row menu agreed_jm 0 always closing going
-    ∷ row menu tick 10000 always over late
+    ∷ row menu agreed_jm 0 JmRefused over not_offered
+    ∷ row menu agreed_jm 0 Always closing going
+    ∷ row menu tick 10000 Always over late
     -- "CJ sent: pause; choice none: over, cleared"
-    ∷ row closing cj_sent 0 none_chosen over cleared
-    ∷ row closing cj_sent 0 always pause going
+    ∷ row closing cj_sent 0 NoneChosen over cleared
+    ∷ row closing cj_sent 0 Always pause going
     -- "elapsed 75: over, go on as chosen or left"
-    ∷ row pause tick 75 always over goes_on
+    ∷ row pause tick 75 Always over goes_on
     -- "elapsed 200: answering (sends ANSam)"
-    ∷ row answerer_still tick 200 always answering going
+    ∷ row answerer_still tick 200 Always answering going
     -- "agreed CM: joint (sends JM). sigC, or elapsed 5,000: pause, then left"
-    ∷ row answering agreed_cm 0 always joint going
-    ∷ row answering sig_c 0 always pause going
-    ∷ row answering tick 5000 always pause going
+    ∷ row answering agreed_cm 0 Always joint going
+    ∷ row answering sig_c 0 Always pause going
+    ∷ row answering tick 5000 Always pause going
     -- "CJ: pause, choice none: over, cleared. sigC of the chosen item: pause. Elapsed 10,000 (house): over, late"
-    ∷ row joint cj 0 none_chosen over cleared
-    ∷ row joint cj 0 always pause going
-    ∷ row joint sig_c 0 chosen_item pause going
-    ∷ row joint tick 10000 always over late
+    ∷ row joint cj 0 NoneChosen over cleared
+    ∷ row joint cj 0 Always pause going
+    ∷ row joint sig_c 0 ChosenItem pause going
+    ∷ row joint tick 10000 Always over late
     ∷ []

@@ -3,13 +3,13 @@
 // One constant table, by state and event, is the rule. A step tests the session, the event and the clock, and looks up the row.
 #![tactic(auto)]
 
-ghost use Rattle.std.specs.Prelude.{◌≡◌, ◌≤◌, drop};
+ghost use Rattle.std.specs.Prelude.{◌≡◌};
 ghost use Rattle.laws.specs.Logic.{both};
 ghost use Rattle.refusals.specs.Refusals.{number};
 ghost use Rattle.cadence.specs.Cadence.{is_function};
-ghost use Rattle.steps.specs.Table.{rows};
+ghost use Rattle.steps.specs.Table.{condition_number, rows};
 ghost use Rattle.steps.specs.Session.{between, is_item, is_choice, is_te, end_fits, of_end, state_fits, early, choice_fits, ended_fits, beginning, cadence_of, in_range, caller_from, answerer_from, default_te, says_started, started_caller};
-ghost use Rattle.steps.specs.Inner.{what_holds, find_held, or_else};
+ghost use Rattle.steps.specs.Inner.{what_holds, find_held};
 ghost use Rattle.steps.specs.Stepping.{says_answered, Steps, elapsed, owns, carries, is_sent, row_fits, find_row, chosen_after, renewed, ended_as, answer_of, entering, row_taken, with_cadence, remembered, moved, refused_step, timed, stepped_in, stepped};
 ghost use Rattle.steps.specs.Drawing.{Draws, drawn};
 
@@ -92,24 +92,37 @@ pub const TICK: u8 = 9;
 pub const REFUSED_WITH_11: u8 = 24;
 
 // What a row asks for besides its state, its event and elapsed time.
-const ALWAYS: u8 = 0;
+#[derive(Clone, Copy)]
+enum Condition {
+    Always,
+    TeElapsed,
+    NoneChosen,
+    JmRefused,
+    ChosenItem,
+    // No tone was heard, and nothing is left to send of the cadence; no tone was heard; ANSam or ANS was heard, and nothing is left.
+    NothingLeft,
+    NoTone,
+    BehindAnsam,
+    BehindAns,
+}
 
-const TE_ELAPSED: u8 = 1;
-
-const NONE_CHOSEN: u8 = 2;
-
-const JM_REFUSED: u8 = 3;
-
-const CHOSEN_ITEM: u8 = 4;
-
-// No tone was heard, and nothing is left to send of the cadence; no tone was heard; ANSam or ANS was heard, and nothing is left.
-const NOTHING_LEFT: u8 = 5;
-
-const NO_TONE: u8 = 6;
-
-const BEHIND_ANSAM: u8 = 7;
-
-const BEHIND_ANS: u8 = 8;
+impl Condition {
+    fn number(self) -> usize
+        ensures { result ≡ condition_number self }
+    {
+        match self {
+            Condition::Always => 0,
+            Condition::TeElapsed => 1,
+            Condition::NoneChosen => 2,
+            Condition::JmRefused => 3,
+            Condition::ChosenItem => 4,
+            Condition::NothingLeft => 5,
+            Condition::NoTone => 6,
+            Condition::BehindAnsam => 7,
+            Condition::BehindAns => 8,
+        }
+    }
+}
 
 // Where a row leads to: the next state, and how the session ended. One that leads to its own state remembers its event, a tone.
 #[derive(Clone, Copy)]
@@ -123,7 +136,7 @@ struct Row {
     state: u8,
     event: u8,
     least: u32,
-    condition: u8,
+    condition: Condition,
 }
 
 // Document 01's table. The first row that applies counts, so an exception stands before the row that it is taken from.
@@ -133,7 +146,7 @@ const ROWS: [Row; 23] = [
         state: CALLER_STILL,
         event: TICK,
         least: 1000,
-        condition: ALWAYS,
+        condition: Condition::Always,
         to: To(CALLING, GOING),
     },
     // ANSam: quiet. ANS or sigA: over, left. Where CI is left to send, ANSam or ANS is remembered, and a tick behind its last bit
@@ -142,49 +155,49 @@ const ROWS: [Row; 23] = [
         state: CALLING,
         event: ANSAM,
         least: 0,
-        condition: NOTHING_LEFT,
+        condition: Condition::NothingLeft,
         to: To(QUIET, GOING),
     },
     Row {
         state: CALLING,
         event: ANSAM,
         least: 0,
-        condition: NO_TONE,
+        condition: Condition::NoTone,
         to: To(CALLING, GOING),
     },
     Row {
         state: CALLING,
         event: ANS,
         least: 0,
-        condition: NOTHING_LEFT,
+        condition: Condition::NothingLeft,
         to: To(OVER, LEFT),
     },
     Row {
         state: CALLING,
         event: ANS,
         least: 0,
-        condition: NO_TONE,
+        condition: Condition::NoTone,
         to: To(CALLING, GOING),
     },
     Row {
         state: CALLING,
         event: TICK,
         least: 0,
-        condition: BEHIND_ANSAM,
+        condition: Condition::BehindAnsam,
         to: To(QUIET, GOING),
     },
     Row {
         state: CALLING,
         event: TICK,
         least: 0,
-        condition: BEHIND_ANS,
+        condition: Condition::BehindAns,
         to: To(OVER, LEFT),
     },
     Row {
         state: CALLING,
         event: SIG_A,
         least: 0,
-        condition: ALWAYS,
+        condition: Condition::Always,
         to: To(OVER, LEFT),
     },
     // elapsed Te: menu (sends CM)
@@ -192,7 +205,7 @@ const ROWS: [Row; 23] = [
         state: QUIET,
         event: TICK,
         least: 0,
-        condition: TE_ELAPSED,
+        condition: Condition::TeElapsed,
         to: To(MENU, GOING),
     },
     // agreed JM: closing (sends CJ); where the choice is refused with 11: over, not offered. Elapsed 10,000: over, late
@@ -200,21 +213,21 @@ const ROWS: [Row; 23] = [
         state: MENU,
         event: AGREED_JM,
         least: 0,
-        condition: JM_REFUSED,
+        condition: Condition::JmRefused,
         to: To(OVER, NOT_OFFERED),
     },
     Row {
         state: MENU,
         event: AGREED_JM,
         least: 0,
-        condition: ALWAYS,
+        condition: Condition::Always,
         to: To(CLOSING, GOING),
     },
     Row {
         state: MENU,
         event: TICK,
         least: 10000,
-        condition: ALWAYS,
+        condition: Condition::Always,
         to: To(OVER, LATE),
     },
     // CJ sent: pause; choice none: over, cleared
@@ -222,14 +235,14 @@ const ROWS: [Row; 23] = [
         state: CLOSING,
         event: CJ_SENT,
         least: 0,
-        condition: NONE_CHOSEN,
+        condition: Condition::NoneChosen,
         to: To(OVER, CLEARED),
     },
     Row {
         state: CLOSING,
         event: CJ_SENT,
         least: 0,
-        condition: ALWAYS,
+        condition: Condition::Always,
         to: To(PAUSE, GOING),
     },
     // elapsed 75: over, go on as chosen or left
@@ -237,7 +250,7 @@ const ROWS: [Row; 23] = [
         state: PAUSE,
         event: TICK,
         least: 75,
-        condition: ALWAYS,
+        condition: Condition::Always,
         to: To(OVER, GO_ON),
     },
     // elapsed 200: answering (sends ANSam)
@@ -245,7 +258,7 @@ const ROWS: [Row; 23] = [
         state: ANSWERER_STILL,
         event: TICK,
         least: 200,
-        condition: ALWAYS,
+        condition: Condition::Always,
         to: To(ANSWERING, GOING),
     },
     // agreed CM: joint (sends JM). sigC, or elapsed 5,000: pause, then left
@@ -253,21 +266,21 @@ const ROWS: [Row; 23] = [
         state: ANSWERING,
         event: AGREED_CM,
         least: 0,
-        condition: ALWAYS,
+        condition: Condition::Always,
         to: To(JOINT, GOING),
     },
     Row {
         state: ANSWERING,
         event: SIG_C,
         least: 0,
-        condition: ALWAYS,
+        condition: Condition::Always,
         to: To(PAUSE, GOING),
     },
     Row {
         state: ANSWERING,
         event: TICK,
         least: 5000,
-        condition: ALWAYS,
+        condition: Condition::Always,
         to: To(PAUSE, GOING),
     },
     // CJ: pause, choice none: over, cleared. sigC of the chosen item: pause. Elapsed 10,000: over, late
@@ -275,28 +288,28 @@ const ROWS: [Row; 23] = [
         state: JOINT,
         event: CJ,
         least: 0,
-        condition: NONE_CHOSEN,
+        condition: Condition::NoneChosen,
         to: To(OVER, CLEARED),
     },
     Row {
         state: JOINT,
         event: CJ,
         least: 0,
-        condition: ALWAYS,
+        condition: Condition::Always,
         to: To(PAUSE, GOING),
     },
     Row {
         state: JOINT,
         event: SIG_C,
         least: 0,
-        condition: CHOSEN_ITEM,
+        condition: Condition::ChosenItem,
         to: To(PAUSE, GOING),
     },
     Row {
         state: JOINT,
         event: TICK,
         least: 10000,
-        condition: ALWAYS,
+        condition: Condition::Always,
         to: To(OVER, LATE),
     },
 ];
@@ -556,7 +569,8 @@ fn is_sent(tone: u8, c: Cadence) -> bool
     c.tone == tone && cadence::bits_left(c) == 0
 }
 
-// What each condition comes to, by its number.
+// What each condition comes to, by its number. It is found before rows are looked at: a method that tests the session, asked for each
+// row, misses the speed of a step by a fifth, and one that picks the field of a struct by half (docs/SPEED.md).
 fn what_holds(session: Session, value: u8, passed: u32) -> [bool; 9]
     ensures { result ≡ what_holds session value passed }
 {
@@ -580,24 +594,12 @@ fn row_applies(row: Row, state: u8, event: u8, passed: u32, holding: bool) -> bo
     row.state == state && (row.event == event && (row.least <= passed && holding))
 }
 
-// The first row that applies from one place in the table to another.
-fn find_between(
-    state: u8,
-    event: u8,
-    passed: u32,
-    holding: [bool; 9],
-    table: [Row; 23],
-    from: usize,
-    end: usize,
-) -> Option<To>
-    requires table_value { table ≡ rows }
-    requires from_le_end { from ≤ end }
-    requires end_bound { end ≤ 23 }
-    ensures { or_else result (find_held state event passed holding (drop end rows)) ≡ find_held state event passed holding (drop from rows) }
+// What the first row that applies leads to.
+fn find_in(part: &[Row], state: u8, event: u8, passed: u32, holding: [bool; 9]) -> Option<To>
+    ensures { result ≡ find_held state event passed holding part.now }
 {
-    for i in from..end {
-        let row = table[i];
-        if row_applies(row, state, event, passed, holding[row.condition as usize]) {
+    for row in part {
+        if row_applies(*row, state, event, passed, holding[row.condition.number()]) {
             return Some(row.to);
         }
     }
@@ -610,9 +612,9 @@ fn find_row(session: Session, event: u8, value: u8, passed: u32) -> Option<To>
 {
     let table = ROWS;
     let holding = what_holds(session, value, passed);
-    match find_between(session.state, event, passed, holding, table, 0, 12) {
+    match find_in(&table[..12], session.state, event, passed, holding) {
         Some(to) => Some(to),
-        None => find_between(session.state, event, passed, holding, table, 12, 23),
+        None => find_in(&table[12..], session.state, event, passed, holding),
     }
 }
 
