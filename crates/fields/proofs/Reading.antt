@@ -9,7 +9,6 @@ use mathlib.Core.List.{List, [], ◌∷◌}
 use borrow.Author.Tests.{lt-ltb, le-ltb, le-leb, lt-leb}
 use lib.Dec.{ltb, eqb}
 use lib.ListN.{length, take, drop, get_or, length-drop}
-use Rattle.std.proofs.lemmas.List.{take_rest}
 use lib.Seq.{drop-drop, get_or-drop}
 use Rattle.std.specs.List.{prefix_len}
 use Rattle.laws.specs.Logic.{when, both}
@@ -131,15 +130,6 @@ walked_on (n ∷ octets) before some sized =
     let remain = blocks_of (drop n octets) in
     let size : (block_at (n ∷ octets) 0).whole.size ≡ suc n = whole_size 0 (n ∷ octets) fit ∙ omega arith in
     ap (counted before) (walked_first n octets ∙ ap (λ (t : Bool). when (both t (every fits remain)) (blocks (suc (length remain))) (refusal 14)) fit) ∙ counted_more before (length remain) (every fits remain) ∙ ap (λ (k : ℕ). counted (before + 1) (walked (drop k (n ∷ octets)))) (sym size)
-
--- what remains behind the first block walks on
-pub walked_behind : (octets rest : List ℕ) (before size : ℕ) → 0 < length rest → size ≡ (block_at rest 0).whole.size → (size ≡ 0 → ⊥) → before + length rest ≤ length octets → walked octets ≡ counted before (walked rest)
-    → (before + 1 + length (take (length rest - size) (drop size rest)) ≤ length octets) × (walked octets ≡ counted (before + 1) (walked (take (length rest - size) (drop size rest))))
-walked_behind octets rest before size some is-size sized fits-in so-far =
-    rw take_rest (
-      omega (arith, some, sized, fits-in, length-drop size rest),
-      so-far ∙ walked_on rest before some (λ none. sized (is-size ∙ none)) ∙ ap (λ (k : ℕ). counted (before + 1) (walked (drop k rest))) (sym is-size),
-    )
 
 -- behind no block
 pub counted_none : (w : Walked) → counted 0 w ≡ w

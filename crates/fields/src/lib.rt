@@ -12,7 +12,7 @@ ghost use Rattle.menus.specs.Groups.{onward};
 ghost use Rattle.fields.specs.Packing.{five_of, extension_of, octets_in, left_over, extensions_for, packed};
 ghost use Rattle.fields.specs.Blocks.{blocks_of, length_of, country_size, fits, says_walk, walked, no_block, block_at, place_of, block_of, part_in};
 ghost use Rattle.fields.specs.Field.{is_packed, field_read, field_of};
-ghost use Rattle.fields.specs.Inner.{span_of, Unpacks, held_with, Writes, blocks_put, group_read};
+ghost use Rattle.fields.specs.Inner.{counted, span_of, Unpacks, held_with, Writes, blocks_put, group_read};
 
 use refusals::Refusal;
 
@@ -249,22 +249,28 @@ pub fn block_at(octets: &[u8], place: usize) -> Block
     coded_block(octets, place, size)
 }
 
-// How many blocks the octets are, or the refusal where one of them does not fit: the first one, and then the same with what remains.
+// The walk over the blocks, behind so many: "handles the first one and then does the same with what remains", a call of itself where
+// document 01 names that form.
+fn walk_on(octets: &[u8], before: usize) -> Result<usize, Refusal>
+    requires { before + length octets.now < 2 ^ 64 }
+    ensures { says_walk result ≡ counted before (walked octets.now) }
+{
+    if octets.len() == 0 {
+        return Ok(before);
+    }
+    let first = block_at(octets, 0);
+    let size = first.whole.size;
+    if size == 0 {
+        return Err(Refusal::BadBlock);
+    }
+    walk_on(&octets[size..], before + 1)
+}
+
+// How many blocks the octets are, or the refusal where one of them does not fit.
 pub fn walk_blocks(octets: &[u8]) -> Result<usize, Refusal>
     ensures { says_walk result ≡ walked octets.now }
 {
-    let mut rest = octets;
-    let mut count: usize = 0;
-    while !rest.is_empty() {
-        let first = block_at(rest, 0);
-        let size = first.whole.size;
-        if size == 0 {
-            return Err(Refusal::BadBlock);
-        }
-        rest = &rest[size..];
-        count += 1;
-    }
-    Ok(count)
+    walk_on(octets, 0)
 }
 
 // Where the block of a number begins, behind those before it.

@@ -98,14 +98,14 @@ pub fn options_in(group: &[u8]) -> u8
     octets::options_of(group[0])
 }
 
-// The first group of a tag, or the empty part where there is none.
+// The first group of a tag, or the empty part where there is none: "takes this answer apart", opened by let .. else as document 01 names it.
 fn group_of(octets: &[u8], tag: u8) -> &[u8]
     ensures { result.now ≡ group_of octets.now tag }
 {
-    match first_group(octets, tag) {
-        Some(place) => part(octets, place),
-        None => &octets[0..0],
-    }
+    let Some(place) = first_group(octets, tag) else {
+        return &octets[0..0];
+    };
+    part(octets, place)
 }
 
 // How many octets the first group of a tag has, 0 where there is none.
