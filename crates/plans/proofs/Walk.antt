@@ -1,10 +1,10 @@
 -- Laws about texts, one byte at a time.
 -- Assumes nothing.
-use Rattle.std.proofs.Common.{◌≡◌, ℕ, zero, suc, ◌+◌, ◌-◌, ◌<◌, ◌≤◌, Bool, true, false, eqb, ltb, ◌⊎◌, List, [], ◌∷◌, ◌++◌, length, get_or, take, drop, set, sym, refl, ap, ◌∙◌, inl, inr, zero-le, le_refl, le_of_suc-le-suc, not-suc-le-zero, add-one, arith, length-set, drop_of_length-le, drop-cons, le-ltb, lt-ltb, eq-eqb, ne_eqb, eqb-true}
+use Rattle.std.proofs.Common.{◌≡◌, ℕ, zero, suc, ◌+◌, ◌<◌, ◌≤◌, Bool, true, false, cond, not, eqb, ltb, leb, min, ◌⊎◌, List, [], ◌∷◌, ◌++◌, length, get_or, drop, set, sym, refl, ap, ◌∙◌, inl, inr, le_of_suc-le-suc, not-suc-le-zero, add-one, arith, length-set, drop_of_length-le, drop-cons, le-ltb, lt-ltb, eq-eqb, ne_eqb, eqb-true, leb-true, leb-false}
+use Rattle.std.specs.List.{prefix_len}
 use Rattle.laws.specs.Logic.{when, either}
-use Rattle.laws.proofs.Logic.{either_way}
 use Rattle.plans.specs.declared.Reading.{Reading}
-use Rattle.plans.specs.Text.{blank, ends_word, word_length, word, no_number, with_digit, number_on, line_feed, comment, line_feeds, word_at, no_octet}
+use Rattle.plans.specs.Text.{blank, ends_word, word_length, word, no_number, with_digit, number_on, line_feed, comment, word_at, no_octet}
 use Rattle.plans.specs.Reading.{read_word, finish_line, between, in_word, in_comment, scan_after, begins_word, read_byte, mistake, finished, read_from, is_bit, marked_bit, marked_from, octet_at, one_octet, octets_from}
 use Rattle.plans.specs.Inner.{nowhere, bit_at}
 
@@ -22,19 +22,14 @@ set_where false list at fits = set_past list nowhere 1 fits
 abbrev behind : Bool → Bool → Bool → ℕ
 behind feed mark white = when feed between (when mark in_comment (when white between in_word))
 
-in_word_lem : (feed mark white : Bool) → behind feed mark white ≡ in_word → either white (either feed mark) ≡ false
+ends_lem : (feed mark white : Bool) → not (eqb (behind feed mark white) in_word) ≡ either white (either feed mark)
 unfolding when either
-in_word_lem true mark white is_IsWord = absurd (omega (arith, is_IsWord))
-in_word_lem false true white is_IsWord = absurd (omega (arith, is_IsWord))
-in_word_lem false false true is_IsWord = absurd (omega (arith, is_IsWord))
-in_word_lem false false false is_IsWord = refl
-
-not_in_word : (feed mark white : Bool) → (behind feed mark white ≡ in_word → ⊥) → either white (either feed mark) ≡ true
-unfolding when either
-not_in_word feed mark true no_word = refl
-not_in_word true mark false no_word = refl
-not_in_word false true false no_word = refl
-not_in_word false false false no_word = absurd (no_word refl)
+ends_lem true mark true = refl
+ends_lem false true true = refl
+ends_lem false false true = refl
+ends_lem true mark false = refl
+ends_lem false true false = refl
+ends_lem false false false = refl
 
 -- a line feed begins no word
 pub feeds_no_word : (scan b : ℕ) → eqb b line_feed ≡ true → begins_word scan b ≡ false
@@ -76,19 +71,29 @@ module _ (b : ℕ) where
       simp (ne_eqb b 10 no-feed, ne_eqb b 35 no-mark, ne_eqb b 32 (λ is. no-blank (inr (inr (inl is)))), ne_eqb b 9 (λ is. no-blank (inl is)), ne_eqb b 13 (λ is. no-blank (inr (inl is))), ne_eqb b 44 (λ is. no-blank (inr (inr (inr is)))))
 
   -- a byte ends a word where no word stands behind it
-  pub goes_on : scan_after between b ≡ in_word → ends_word b ≡ false
+  pub word_over : not (eqb (scan_after between b) in_word) ≡ ends_word b
   unfolding scan_after when
-  goes_on is_IsWord = in_word_lem (eqb b line_feed) (eqb b comment) (blank b) is_IsWord
+  word_over = ends_lem (eqb b line_feed) (eqb b comment) (blank b)
 
-  pub ended : (scan_after between b ≡ in_word → ⊥) → ends_word b ≡ true
-  unfolding scan_after when
-  ended no_word = not_in_word (eqb b line_feed) (eqb b comment) (blank b) no_word
+-- the word at the front is what stands before the first byte that is in none
+pub word_prefix : (text : List ℕ) → prefix_len (λ b. not (ends_word b)) text ≡ word_length text
+unfolding word_length when
+word_prefix [] = refl
+word_prefix (b ∷ rest) = go (ends_word b) (word_prefix rest)
+  where
+    go : {n m : ℕ} (t : Bool) → n ≡ m → cond (not t) (1 + n) 0 ≡ when t 0 (suc m)
+    go true same = refl
+    go false same = omega (arith, same)
 
--- a word is no longer than what it stands in
-pub word_within : (text : List ℕ) → word_length text ≤ length text
-unfolding word_length
-word_within [] = zero-le
-word_within (b ∷ rest) = either_way (λ (n : ℕ). n ≤ suc (length rest)) (ends_word b) 0 (suc (word_length rest)) (λ _. zero-le) (λ _. omega (arith, word_within rest))
+-- a place past the end is the end
+pub drop_within : (text : List ℕ) (at from : ℕ) → from ≡ min at (length text) → drop from text ≡ drop at text
+drop_within text at from is = go (leb at (length text)) refl
+  where
+    go : (t : Bool) → leb at (length text) ≡ t → drop from text ≡ drop at text
+    go true fits = ap (λ (n : ℕ). drop n text) (omega (arith, is, leb-true at (length text) fits))
+    go false past =
+        let over = leb-false at (length text) past in
+        drop_of_length-le text (omega (arith, is, over)) ∙ sym (drop_of_length-le text (omega (arith, over)))
 
 -- what is no number stays none
 none_on : (word : List ℕ) → number_on no_number word ≡ no_number
@@ -106,26 +111,12 @@ module _ (text : List ℕ) (i : ℕ) where
     here : drop i text ≡ get_or text i 0 ∷ drop (i + 1) text
     here = drop-cons text i 0 more ∙ ap (λ (next : ℕ). get_or text i 0 ∷ drop next text) (sym (add-one i))
 
-    pub word_ends : ends_word (get_or text i 0) ≡ true → word_length (drop i text) ≡ 0
-    unfolding word_length when
-    word_ends ends = simp (here, ends)
-
-    pub word_on : ends_word (get_or text i 0) ≡ false → word_length (drop i text) ≡ suc (word_length (drop (i + 1) text))
-    unfolding word_length when
-    word_on goes_on = simp (here, goes_on)
-
     pub number_on_lem : (n : ℕ) → number_on n (drop i text) ≡ number_on (with_digit n (get_or text i 0)) (drop (i + 1) text)
     unfolding number_on
     number_on_lem n = ap (number_on n) here
 
     pub no_digit : (n : ℕ) → with_digit n (get_or text i 0) ≡ no_number → number_on n (drop i text) ≡ no_number
     no_digit n none = number_on_lem n ∙ ap (λ (m : ℕ). number_on m (drop (i + 1) text)) none ∙ none_on (drop (i + 1) text)
-
-    pub lines_on : (at : ℕ) → i < at → line_feeds (take (at - i) (drop i text)) ≡ when (eqb (get_or text i 0) line_feed) 1 0 + line_feeds (take (at - (i + 1)) (drop (i + 1) text))
-    unfolding line_feeds
-    lines_on at before =
-        let one_more : at - i ≡ suc (at - (i + 1)) = omega (arith, before) in
-        ap (λ (n : ℕ). line_feeds (take n (drop i text))) one_more ∙ ap (λ (rest : List ℕ). line_feeds (take (suc (at - (i + 1))) rest)) here
 
     abbrev this : ℕ
     this = get_or text i 0
@@ -186,18 +177,9 @@ module _ (text : List ℕ) (i : ℕ) where
     nothing : drop i text ≡ []
     nothing = drop_of_length-le text over
 
-    pub word_past : word_length (drop i text) ≡ 0
-    unfolding word_length
-    word_past = simp nothing
-
     pub number_past : (n : ℕ) → number_on n (drop i text) ≡ n
     unfolding number_on
     number_past n = simp nothing
-
-    pub lines_past : (n : ℕ) → line_feeds (take n (drop i text)) ≡ 0
-    unfolding line_feeds
-    lines_past zero = refl
-    lines_past (suc n) = simp nothing
 
     pub read_end : (r : Reading) (scan : ℕ) → read_from r scan i (drop i text) ≡ finished r i
     unfolding read_from
@@ -210,17 +192,6 @@ module _ (text : List ℕ) (i : ℕ) where
     pub octets_end : (end : ℕ) (r : Reading) (scan : ℕ) → octets_from end r scan (drop i text) ≡ []
     unfolding octets_from
     octets_end end r scan = simp nothing
-
--- no line feed stands in no text
-pub lines_none : (text : List ℕ) → line_feeds (take 0 text) ≡ 0
-unfolding line_feeds
-lines_none text = refl
-
--- a test counts for one at most
-pub one_at_most : (test : Bool) → when test 1 0 ≤ 1
-unfolding when
-one_at_most true = le_refl 1
-one_at_most false = zero-le
 
 -- no word stands past the end
 pub no_word : (text : List ℕ) (at : ℕ) → length text ≤ at → word_at text at ≡ []

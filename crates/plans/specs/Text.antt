@@ -1,5 +1,5 @@
 -- The words, numbers and lines of a text.
-use Rattle.std.specs.Prelude.{ℕ, suc, ◌+◌, ◌-◌, ◌*◌, Bool, List, [], ◌∷◌, length, take, drop, ◌==◌, nat_le, nat_lt, slice_index}
+use Rattle.std.specs.Prelude.{ℕ, suc, ◌+◌, ◌-◌, ◌*◌, Bool, List, [], ◌∷◌, length, take, drop, ◌==◌, nat_le, nat_lt, slice_index, count_by}
 use Rattle.laws.specs.Logic.{when, either}
 
 -- a space, a tab, a carriage return, a comma
@@ -58,9 +58,8 @@ unfoldable pub octet : List ℕ → ℕ
 octet word = when (length word == 2) (16 * hex_value (slice_index word 0) + hex_value (slice_index word 1)) no_octet
 
 -- how many line feeds stand in a text
-unfoldable pub line_feeds : List ℕ → ℕ
-line_feeds [] = 0
-line_feeds (b ∷ rest) = when (b == line_feed) 1 0 + line_feeds rest
+abbrev pub line_feeds : List ℕ → ℕ
+line_feeds text = count_by (λ b. b == line_feed) text
 
 -- how many lines stand before the line of a place
 abbrev pub lines_before : List ℕ → ℕ → ℕ

@@ -16,11 +16,12 @@
 // Words stand apart by blanks, tabs and commas, in upper or lower case; # begins a comment. The lines may come in any order.
 #![tactic(auto)]
 
-ghost use Rattle.std.specs.Prelude.{◌≡◌, ◌+◌, ◌-◌, ◌%◌, ◌<◌, ◌≤◌, List, [], ◌++◌, length, take, drop, set, ◌==◌, slice_index};
+ghost use Rattle.std.specs.Prelude.{not, ◌≡◌, ◌+◌, ◌-◌, ◌%◌, ◌<◌, ◌≤◌, List, [], ◌++◌, length, take, drop, set, ◌==◌, slice_index};
+ghost use Rattle.std.specs.List.{prefix_len};
 ghost use Rattle.laws.specs.Logic.{when, both};
 ghost use Rattle.laws.specs.Front.{front};
 ghost use Rattle.printing.specs.Page.{typed};
-ghost use Rattle.plans.specs.Text.{word_length, number, hex_value, octet, lines_before, word_at};
+ghost use Rattle.plans.specs.Text.{ends_word, number, hex_value, octet, lines_before, word_at};
 ghost use Rattle.plans.specs.Reading.{mistaken, going, place, set_at, store, added, say, first_of, is_said, begin_named, behind_name, lacks_call, planning, cadenced, answering, all_said, nothing_yet, part_word, name_word, is_on, is_answer, number_word, listed, one_of, read_word, modes_of, record_of, record_mistake, with_home, finish_end, finish_line, between, scan_after, begins_word, read_byte, fresh, finished, read_text, bit_place, marked, octet_at, octets_in, call_not_had, default_on, default_off, default_answer};
 ghost use Rattle.plans.specs.Plain.{function_text, functions_text, wants_text, end_text, entry_front, octets_text, bits_text, damage_text, decimal, caller_text, called_text, head_text, cadence_text, plain};
 ghost use Rattle.plans.specs.Inner.{told_text, lacking, bit_at};
@@ -142,6 +143,9 @@ const IN_WORD: u8 = 1;
 
 const IN_COMMENT: u8 = 2;
 
+// How many sets an end has.
+const SETS: u8 = 8;
+
 // Where the home function stands among the sets of an end.
 const HOME: u8 = 7;
 
@@ -167,7 +171,7 @@ const NOWHERE: usize = 18446744073709551615;
 const DEFAULT_TE: u16 = steps::DEFAULT_TE as u16;
 
 // The cadence of a text that gives none: sequences on, half a second, and bit times off, one and a half.
-const DEFAULT_ON: u8 = 5;
+const DEFAULT_ON: u16 = 5;
 
 const DEFAULT_OFF: u16 = 450;
 
@@ -242,39 +246,34 @@ fn scan_after(scan: u8, b: u8) -> u8
     after_byte(b)
 }
 
+// Whether a byte stands in no word.
+fn ends_word(b: u8) -> bool
+    ensures { result ≡ ends_word b }
+{
+    after_byte(b) != IN_WORD
+}
+
 // Whether a byte begins a word.
 fn begins_word(scan: u8, b: u8) -> bool
     ensures { result ≡ begins_word scan b }
 {
-    if after_byte(b) == IN_WORD {
-        return scan == BETWEEN;
-    }
-    false
+    !ends_word(b) && scan == BETWEEN
 }
 
-// Where the word at a place ends.
-fn word_end(text: &[u8], at: usize) -> usize
-    ensures { result ≡ at + word_length (drop at text.now) }
+// How long the word at the front of a text is.
+fn word_length(text: &[u8]) -> usize
+    ensures { (result ≡ prefix_len (λ b. not (ends_word b)) text.now) × (result ≤ length text.now) }
 {
-    let mut i = at;
-    while i < text.len() {
-        if after_byte(text[i]) != IN_WORD {
-            return i;
-        }
-        i += 1;
-    }
-    i
+    text.iter().take_while(|b| !ends_word(**b)).count()
 }
 
 // The word at a place, of the text itself; empty where there is none.
 pub fn word_at(text: &[u8], at: usize) -> &[u8]
     ensures { result.now ≡ word_at text.now at }
 {
-    let end = word_end(text, at);
-    if end <= text.len() {
-        return &text[at..end];
-    }
-    &text[..0]
+    let from = at.min(text.len());
+    let rest = &text[from..];
+    &rest[..word_length(rest)]
 }
 
 // A decimal number below 100,000.
@@ -348,34 +347,28 @@ fn place(end: u8, k: u8) -> usize
 fn set_at(plan: Plan, end: u8, k: u8) -> u16
     ensures { result ≡ set_at plan end k }
 {
-    let sets = plan.sets;
-    let at = place(end, k);
-    sets[at]
+    plan.sets[place(end, k)]
 }
 
 // What may come next, and a mistake or 0.
-fn going(mut r: Reading, context: u8, what: u8) -> Reading
+fn going(r: Reading, context: u8, what: u8) -> Reading
     ensures { result ≡ mistaken (going r context) what }
 {
-    r.context = context;
-    r.what = what;
-    r
+    Reading { context, what, ..r }
 }
 
 // The line's end with one of its sets anew; modes behind it belong to `function`, and `first` is the first function that the line names.
 fn store(r: Reading, k: u8, set: u16, function: u8, first: u8) -> Reading
     ensures { result ≡ store r k set function first }
 {
-    let at = place(r.end, k);
     let mut plan = r.plan;
-    plan.sets[at] = set;
+    plan.sets[place(r.end, k)] = set;
     Reading {
-        plan: plan,
-        end: r.end,
-        function: function,
-        first: first,
+        plan,
+        function,
+        first,
         context: IN_END,
-        what: r.what,
+        ..r
     }
 }
 
@@ -433,14 +426,12 @@ fn begin_named(r: Reading, name: u8, end: u8, context: u8) -> Reading
     if is_said(r.plan, name) {
         return going(r, r.context, TWICE);
     }
-    let plan = r.plan;
     Reading {
-        plan: plan,
-        end: end,
+        end,
         function: 0,
         first: 0,
-        context: context,
-        what: r.what,
+        context,
+        ..r
     }
 }
 
@@ -476,16 +467,16 @@ fn call_mistake(plan: Plan, what: u8) -> u8
 fn planning(r: Reading, function: u8, te: u16, context: u8) -> Reading
     ensures { result ≡ planning r function te context }
 {
-    let mut plan = r.plan;
-    plan.function = function;
-    plan.te = te;
+    let plan = Plan {
+        function,
+        te,
+        ..r.plan
+    };
     Reading {
-        plan: plan,
-        end: r.end,
-        function: r.function,
-        first: r.first,
-        context: context,
+        plan,
+        context,
         what: call_mistake(plan, r.what),
+        ..r
     }
 }
 
@@ -493,54 +484,30 @@ fn planning(r: Reading, function: u8, te: u16, context: u8) -> Reading
 fn cadenced(r: Reading, on: u8, off: u16, context: u8) -> Reading
     ensures { result ≡ cadenced r on off context }
 {
-    let mut plan = r.plan;
-    plan.on = on;
-    plan.off = off;
-    Reading {
-        plan: plan,
-        end: r.end,
-        function: r.function,
-        first: r.first,
-        context: context,
-        what: r.what,
-    }
+    let plan = Plan { on, off, ..r.plan };
+    Reading { plan, context, ..r }
 }
 
 // When the answerer answers, and what may come next.
 fn answering(r: Reading, answers: u16, context: u8) -> Reading
     ensures { result ≡ answering r answers context }
 {
-    let mut plan = r.plan;
-    plan.answers = answers;
-    Reading {
-        plan: plan,
-        end: r.end,
-        function: r.function,
-        first: r.first,
-        context: context,
-        what: r.what,
-    }
+    let plan = Plan { answers, ..r.plan };
+    Reading { plan, context, ..r }
 }
 
-// All that is said of an end, as a sum: 0 where nothing is.
-fn all_said(plan: Plan, end: u8) -> u32
-    ensures { result ≡ all_said plan end }
+// Whether nothing is said of an end.
+fn nothing_said(plan: Plan, end: u8) -> bool
+    ensures { result ≡ (all_said plan end == 0) }
 {
-    set_at(plan, end, 0) as u32
-        + set_at(plan, end, 1) as u32
-        + set_at(plan, end, 2) as u32
-        + set_at(plan, end, 3) as u32
-        + set_at(plan, end, 4) as u32
-        + set_at(plan, end, 5) as u32
-        + set_at(plan, end, 6) as u32
-        + set_at(plan, end, 7) as u32
+    (0..SETS).all(|k| set_at(plan, end, k) == 0)
 }
 
 // Whether the line is that of the caller, of which nothing is said yet, and no function is called.
 fn nothing_yet(r: Reading) -> bool
     ensures { result ≡ nothing_yet r }
 {
-    r.end == steps::CALLER && (all_said(r.plan, steps::CALLER) == 0 && r.plan.function == 0)
+    r.end == steps::CALLER && (nothing_said(r.plan, steps::CALLER) && r.plan.function == 0)
 }
 
 // A part of an end's line: what may come next has the number of its name. A CM that is given stands alone.
@@ -686,14 +653,7 @@ fn modes_at(plan: Plan, end: u8, k: u8) -> Modes
 fn functions_of(plan: Plan, end: u8) -> [Modes; 6]
     ensures { result ≡ (record_of plan end).functions }
 {
-    [
-        modes_at(plan, end, 1),
-        modes_at(plan, end, 2),
-        modes_at(plan, end, 3),
-        modes_at(plan, end, 4),
-        modes_at(plan, end, 5),
-        modes_at(plan, end, 6),
-    ]
+    [1, 2, 3, 4, 5, 6].map(|function: u8| modes_at(plan, end, function))
 }
 
 // The record of an end.
@@ -799,43 +759,11 @@ fn begin() -> Reading
     }
 }
 
-// Te of a plan that gives none is that of a start without a value.
-fn te_of(te: u16) -> u16
-    ensures { result ≡ when (te == 0) default_te te }
+// What is said of a plan, or the default where nothing is, which stands as 0.
+fn or_default(said: u16, default: u16) -> u16
+    ensures { result ≡ when (said == 0) default said }
 {
-    if te == 0 {
-        return DEFAULT_TE;
-    }
-    te
-}
-
-// The on period of a plan that gives none, and the off period.
-fn on_of(on: u8) -> u8
-    ensures { result ≡ when (on == 0) default_on on }
-{
-    if on == 0 {
-        return DEFAULT_ON;
-    }
-    on
-}
-
-fn off_of(off: u16) -> u16
-    ensures { result ≡ when (off == 0) default_off off }
-{
-    if off == 0 {
-        return DEFAULT_OFF;
-    }
-    off
-}
-
-// When the answerer of a plan answers that gives no time.
-fn answers_of(answers: u16) -> u16
-    ensures { result ≡ when (answers == 0) default_answer answers }
-{
-    if answers == 0 {
-        return DEFAULT_ANSWER;
-    }
-    answers
+    if said == 0 { default } else { said }
 }
 
 // The mistake of a text that was read to its end, or what it lacks, or 0.
@@ -868,10 +796,10 @@ fn finish(r: Reading, at: usize) -> Result<Plan, Mistake>
     }
     let said = last.plan;
     Ok(Plan {
-        te: te_of(said.te),
-        on: on_of(said.on),
-        off: off_of(said.off),
-        answers: answers_of(said.answers),
+        te: or_default(said.te, DEFAULT_TE),
+        on: or_default(said.on as u16, DEFAULT_ON) as u8,
+        off: or_default(said.off, DEFAULT_OFF),
+        answers: or_default(said.answers, DEFAULT_ANSWER),
         ..said
     })
 }
@@ -996,29 +924,11 @@ pub fn put_octets_of(text: &[u8], end: u8, out: &mut [u8]) -> usize
     n
 }
 
-fn one_if(there: bool) -> usize
-    ensures { result ≡ when there 1 0 }
-{
-    if there {
-        return 1;
-    }
-    0
-}
-
 // How many lines stand before the line of a place.
 pub fn lines_before(text: &[u8], at: usize) -> usize
     ensures { (result ≡ lines_before text.now at) × (result ≤ length text.now) }
 {
-    let mut lines: usize = 0;
-    let mut i: usize = 0;
-    while i < text.len() {
-        if at <= i {
-            return lines;
-        }
-        lines += one_if(text[i] == LINE_FEED);
-        i += 1;
-    }
-    lines
+    text.iter().take(at).filter(|b| **b == LINE_FEED).count()
 }
 
 // A text, where it is wanted.

@@ -1,14 +1,12 @@
--- `plans::begins_word` meets its contract: a byte that ends a word begins none.
+-- `plans::begins_word` meets its contract: it is a byte of a word that stands behind none.
 -- Assumes nothing.
-use Rattle.std.proofs.Common.{sym, ◌∙◌}
 use Rattle.laws.specs.Logic.{when}
-use Rattle.plans.proofs.Walk.{goes_on, ended}
 use Rattle.plans.proofs.begins_word.Goals as goal
 
-pub returns-then-after_byte-eq-IN_WORD : goal.returns-then-after_byte-eq-IN_WORD
+pub returns-then-not-ends_word : goal.returns-then-not-ends_word
 unfolding when
-returns-then-after_byte-eq-IN_WORD c = simp (goes_on c.args.b (sym c.after_byte.ensures ∙ c.if-after_byte-eq-IN_WORD.true))
+returns-then-not-ends_word c = simp (← c.ends_word.ensures, c.if-not-ends_word.true)
 
-pub returns : goal.returns
+pub returns-else-not-ends_word : goal.returns-else-not-ends_word
 unfolding when
-returns c = simp (ended c.args.b (λ is_IsWord. c.if-after_byte-eq-IN_WORD.false (c.after_byte.ensures ∙ is_IsWord)))
+returns-else-not-ends_word c = simp (← c.ends_word.ensures, c.if-not-ends_word.false)

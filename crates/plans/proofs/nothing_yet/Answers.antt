@@ -1,16 +1,16 @@
--- `plans::nothing_yet` meets its contract: each test has its turn.
+-- `plans::nothing_yet` meets its contract: the tests follow each other, and all have to hold.
 -- Assumes nothing.
 use Rattle.std.proofs.Common.{eq-eqb, ne_eqb}
 use Rattle.laws.specs.Logic.{both}
 use Rattle.plans.proofs.nothing_yet.Goals as goal
 
-pub returns-then-all_said-eq0 : goal.returns-then-all_said-eq0
+pub returns-then-nothing_said : goal.returns-then-nothing_said
 unfolding both
-returns-then-all_said-eq0 c = simp (eq-eqb _ _ c.if-r-eq-CALLER.true, ← c.all_said.ensures, eq-eqb _ _ c.if-all_said-eq0.true)
+returns-then-nothing_said c = simp (eq-eqb _ _ c.if-r-eq-CALLER.true, ← c.nothing_said.ensures, c.if-nothing_said.true)
 
-pub returns-else-all_said-eq0 : goal.returns-else-all_said-eq0
+pub returns-else-nothing_said : goal.returns-else-nothing_said
 unfolding both
-returns-else-all_said-eq0 c = simp (eq-eqb _ _ c.if-r-eq-CALLER.true, ← c.all_said.ensures, ne_eqb _ _ c.if-all_said-eq0.false)
+returns-else-nothing_said c = simp (eq-eqb _ _ c.if-r-eq-CALLER.true, ← c.nothing_said.ensures, c.if-nothing_said.false)
 
 pub returns-else-r-eq-CALLER : goal.returns-else-r-eq-CALLER
 unfolding both

@@ -5,4 +5,4 @@ use Rattle.plans.proofs.store.Goals as goal
 
 pub returns : goal.returns
 unfolding when
-returns c = simp c.place-at.ensures.0
+returns c = simp c.place.ensures.0
