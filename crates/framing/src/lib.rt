@@ -222,14 +222,21 @@ fn at_end(place: u32, before: u32, bit: u8) -> Placed
 fn place_bit(place: u32, before: u32, past: u32, len: u8, bit: u8) -> Placed
     ensures { result ≡ placed place before past len bit }
 {
-    match place {
-        HUNTING => go_to(hunt(before, bit), NOTHING),
-        IN_SYNC..LAST_OF_SYNC => go_to(place + 1, NOTHING),
-        LAST_OF_SYNC => end_sync(past),
-        BOUNDARY => at_boundary(bit),
-        IN_OCTET..STOP_POSITION => go_to(place + 1, NOTHING),
-        STOP_POSITION => at_stop(past, len, bit),
-        _ => at_end(place, before, bit),
+    // no `match`: it becomes a table, and a bit takes longer to find its place in that than by these tests
+    if place == HUNTING {
+        go_to(hunt(before, bit), NOTHING)
+    } else if place < LAST_OF_SYNC {
+        go_to(place + 1, NOTHING)
+    } else if place == LAST_OF_SYNC {
+        end_sync(past)
+    } else if place == BOUNDARY {
+        at_boundary(bit)
+    } else if place < STOP_POSITION {
+        go_to(place + 1, NOTHING)
+    } else if place == STOP_POSITION {
+        at_stop(past, len, bit)
+    } else {
+        at_end(place, before, bit)
     }
 }
 

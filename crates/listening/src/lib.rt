@@ -111,11 +111,11 @@ impl Message {
 }
 
 // Whether a menu is agreed, where `last` was reported just before it.
-#[tactic(auto, using(laws::proofs::Cases::cases, laws::proofs::Same::same_by_library), unfolding(laws::specs::Logic::both, crate::specs::Hearing::agreed))]
+#[tactic(auto, using(laws::proofs::Cases::cases), unfolding(laws::specs::Logic::both, crate::specs::Hearing::agreed))]
 fn agree(m: Message, last: Message) -> bool
     ensures { result ≡ agreed m last }
 {
-    octets::can_read(m.heard()) && m.kind == last.kind && m.heard() == last.heard()
+    octets::can_read(m.heard()) && m.kind == last.kind && octets::same(m.heard(), last.heard())
 }
 
 // The span of a message of so many octets: ten bits for its sync, ten for each octet, and the ten 1s.
