@@ -1,6 +1,6 @@
 -- The first item that is found from one on is the lowest from there on.
 -- Assumes nothing.
-use Rattle.std.specs.Prelude.{None, Some}
+use Rattle.std.specs.Prelude.{Some}
 use Rattle.std.specs.List.{range_with_len, find}
 use Rattle.std.specs.Option.{option_map}
 use Prim.Native.Nat.{ℕ, zero, suc, ◌<◌, ◌+◌}
@@ -27,11 +27,3 @@ lowest_found items (suc before) (suc n) some = go (in_set items (suc before)) (l
         → option_map an_item (cond there (Some (suc before)) (find (in_set items) (range_with_len (suc before + 1) n))) ≡ item_of (when there (suc before) (lowest_from items (suc before + 1) n))
     go true behind = refl
     go false behind = behind
-
-pub none_of : (n : ℕ) → item_of n ≡ None → n ≡ 0
-none_of zero e = refl
-none_of (suc n) e = cc
-
-pub some_of : (n : ℕ) (i : Item) → item_of n ≡ Some i → (i.0 ≡ n) × (n ≡ 0 → ⊥)
-some_of zero i e = cc
-some_of (suc n) i e = (cc, λ z. cc)

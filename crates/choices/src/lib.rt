@@ -1,5 +1,5 @@
 // Choices: what both ends go on with, from the menus of both.
-#![tactic(auto)]
+#![tactic(auto, unfolding(laws::specs::Logic::when, laws::specs::Logic::both, crate::specs::Choosing::pcm_choice, crate::specs::Choosing::item_choice, crate::specs::Choosing::chosen_from))]
 
 ghost use Rattle.std.specs.Prelude.{◌≡◌};
 ghost use Rattle.choices.specs.Choosing.{lowest, says_choice, pcm_choice, item_choice, chosen_from, choice_of};

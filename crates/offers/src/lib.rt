@@ -1,5 +1,5 @@
 // Menus we make: what CM and JM offer, both as octets, and the call function octet.
-#![tactic(auto, unfolding(laws::specs::Logic::when, laws::specs::Logic::both, laws::specs::Logic::either))]
+#![tactic(auto, unfolding(laws::specs::Logic::when, laws::specs::Logic::both, laws::specs::Logic::either, crate::specs::Making::source_of))]
 
 ghost use Rattle.std.specs.Prelude.{◌≡◌, true, false, Some, ◌<◌, ◌≤◌, length, take};
 ghost use Rattle.laws.specs.Logic.{when};
@@ -100,7 +100,7 @@ fn jm_offer(own: Record, cm: Offer) -> Offer
         menus::paired_options(cm.pcm, modes.pcm),
     );
     let caller = cm.access_options % 2 == 1;
-    let access = own.access == 1 || (caller || 0 < pcm);
+    let access = own.access == 1 || caller || 0 < pcm;
     let lapm = cm.lapm && own.lapm == 1;
     Offer {
         function: answered_function(modes.available == 1, cm.function, own.home),

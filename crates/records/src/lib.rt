@@ -1,5 +1,5 @@
 // Records: what an end can do, the test of a record, and the set in use for a function.
-#![tactic(auto)]
+#![tactic(auto, unfolding(laws::specs::Logic::when, laws::specs::Logic::either))]
 
 ghost use Rattle.std.specs.Prelude.{◌≡◌};
 ghost use Rattle.records.specs.Record.{no_modes, outside, lacks_item_1, bad_modes, bad_flags, in_use, bad_record};
@@ -11,7 +11,7 @@ const ITEM_13: u16 = 8192;
 const ALL_OPTIONS: u8 = 7;
 
 // What an end has for one call function: 1 where it is available, otherwise 0; items as a set, bit i for item i; PCM options with b5
-// lowest.
+// lowest. C fills in this struct and the next one, so each test in them is a number, and one that is neither 0 nor 1 is refused by `bad`.
 #[repr(C)]
 #[derive(Clone, Copy, Debug, Default, PartialEq, Eq)]
 pub struct Modes {
@@ -63,14 +63,15 @@ fn bad_modes(modes: Modes) -> bool
     ensures { result ≡ bad_modes modes }
 {
     1 < modes.available
-        || (is_outside(modes.items)
-            || (ALL_OPTIONS < modes.pcm || lacks_item_1(modes.pcm, modes.items)))
+        || is_outside(modes.items)
+        || ALL_OPTIONS < modes.pcm
+        || lacks_item_1(modes.pcm, modes.items)
 }
 
 fn bad_flags(own: Record) -> bool
     ensures { result ≡ bad_flags own }
 {
-    1 < own.lapm || (1 < own.access || (1 < own.cellular || 1 < own.digital))
+    1 < own.lapm || 1 < own.access || 1 < own.cellular || 1 < own.digital
 }
 
 // The test for 10: the home function, and all six functions, available or not.
@@ -78,5 +79,5 @@ pub fn bad(own: Record) -> bool
     ensures { result ≡ bad_record own }
 {
     let home = in_use(own, own.home);
-    home.available != 1 || (bad_flags(own) || own.functions.iter().any(|modes| bad_modes(*modes)))
+    home.available != 1 || bad_flags(own) || own.functions.iter().any(|modes| bad_modes(*modes))
 }
