@@ -11,7 +11,7 @@ use lib.Dec.{ltb, lit<}
 use mir.Val.{bool_byte}
 use Rattle.std.specs.Prelude.{Option, Result}
 use Rattle.std.specs.Bool.{then_some}
-use lib.ListN.{length, take, get_or, replicate, length-append}
+use lib.ListN.{length, get_or, replicate, length-append}
 use Rattle.laws.specs.Logic.{when}
 use Rattle.laws.specs.Joined.{joined}
 use Rattle.laws.proofs.Logic.{either_way, bit_of_test}
@@ -158,11 +158,6 @@ function_there own function t = simp t
 pub function_missing : (own : Record) (function : ℕ) → ((in_use own function).available ≡ 1 → ⊥) → 5 ≡ function_fault own function
 unfolding when
 function_missing own function t = simp (ne_eqb (in_use own function).available 1 t)
-
--- no octets, no first one
-pub no_first : (octets : List ℕ) → length octets ≤ 0 → [] ≡ take 1 octets
-no_first [] h = refl
-no_first (b ∷ octets) h = absurd (omega (arith, h))
 
 -- a menu with a field: its size decides first
 pub with_length : (offer : Offer) (blocks : List ℕ) → length (with_field offer blocks) ≡ length (menu_of house_count offer) + length (field_of blocks)

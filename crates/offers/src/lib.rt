@@ -1,5 +1,5 @@
 // Menus we make: what CM and JM offer, both as octets, and the call function octet.
-#![tactic(auto, unfolding(laws::specs::Logic::when, laws::specs::Logic::both, laws::specs::Logic::either, crate::specs::Making::source_of))]
+#![tactic(auto, unfolding(laws::specs::Logic::when, laws::specs::Logic::both, laws::specs::Logic::either, crate::specs::Making::source_of, refusals::specs::Lent::put))]
 
 ghost use Rattle.std.specs.Prelude.{◌≡◌, true, false, Some, ◌<◌, ◌≤◌, length, take};
 ghost use Rattle.laws.specs.Logic.{when};
@@ -272,6 +272,7 @@ fn modulation_count(jm: Offer, heard_cm: &[u8]) -> u8
 }
 
 // Makes the JM for a heard CM, and answers how many octets it has.
+#[tactic(auto, using(menus::proofs::Reading::read_offered, menus::proofs::Reading::read_refused), unfolding(laws::specs::Logic::when, refusals::specs::Lent::put))]
 pub fn make_jm(own: Record, heard_cm: &[u8], out: &mut [u8]) -> Result<usize, Refusal>
     ensures { Meets (made_jm own heard_cm.now out.old) result out.new }
 {

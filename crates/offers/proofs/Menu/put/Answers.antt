@@ -6,11 +6,11 @@ use Prim.Native.Nat.{ℕ, ◌+◌, ◌<◌, ◌≤◌}
 use mathlib.Core.Path.{◌≡◌, sym, ◌∙◌}
 use mathlib.Core.List.{List, ◌++◌}
 use lib.ListN.{length, length-append}
-use Rattle.refusals.proofs.Outcomes.{meets_short, meets_put, meets_refused, meets_accepted}
+use Rattle.refusals.proofs.Outcomes.{meets_put, meets_accepted}
 use Rattle.fields.specs.Field.{field_of}
-use Rattle.fields.proofs.Field.{field_most, blocks_fit, blocks_unfit}
+use Rattle.fields.proofs.Field.{field_most, blocks_fit}
 use Rattle.offers.specs.Making.{menu_of}
-use Rattle.offers.proofs.Making.{menu_most, size_over, size_fits}
+use Rattle.offers.proofs.Making.{menu_most, size_fits}
 use Rattle.offers.proofs.Writing.{room_behind, write_behind, put_there, put_not_refused}
 use Rattle.offers.proofs.Menu.put.Goals.{After-field_size, After-write-size}
 use Rattle.offers.proofs.Menu.put.Goals as goal
@@ -28,24 +28,6 @@ all_of_it c = menu_of c.args.self.now.count c.args.self.now.offer ++ field_of c.
 whole : (c : After-field_size) → c.size.result + c.field_size.result ≡ length (all_of_it c)
 whole c =
     omega (arith, length-append (menu_of c.args.self.now.count c.args.self.now.offer) (field_of c.args.blocks.now), c.field_size.ensures, c.size.ensures)
-
-pub returns-then-whole-gt-MOST_OCTETS : goal.returns-then-whole-gt-MOST_OCTETS
-returns-then-whole-gt-MOST_OCTETS c =
-    let sized = (goal.at.returns-then-whole-gt-MOST_OCTETS c).After-field_size in
-    meets_refused (all_of_it sized) c.args.out.now _ _ _ (size_over (all_of_it sized) (omega (arith, whole sized, c.if-whole-gt-MOST_OCTETS.true)))
-
-pub returns-then-not-are_blocks : goal.returns-then-not-are_blocks
-returns-then-not-are_blocks c =
-    let sized = (goal.at.returns-then-not-are_blocks c).After-field_size in
-    meets_accepted (all_of_it sized) c.args.out.now _ _ _ _ (size_fits (all_of_it sized) (omega (arith, whole sized, c.if-whole-gt-MOST_OCTETS.false)))
-    (meets_refused (all_of_it sized) c.args.out.now _ _ _ (blocks_unfit c.args.blocks.now (sym c.are_blocks.ensures ∙ c.if-not-are_blocks.true)))
-
-pub returns-then-out-whole : goal.returns-then-out-whole
-returns-then-out-whole c =
-    let sized = (goal.at.returns-then-out-whole c).After-field_size in
-    meets_accepted (all_of_it sized) c.args.out.now _ _ _ _ (size_fits (all_of_it sized) (omega (arith, whole sized, c.if-whole-gt-MOST_OCTETS.false)))
-    (meets_accepted (all_of_it sized) c.args.out.now _ _ _ _ (blocks_fit c.args.blocks.now (sym c.are_blocks.ensures ∙ c.if-not-are_blocks.false))
-    (meets_short (all_of_it sized) c.args.out.now (omega (arith, whole sized, c.if-out-whole.true))))
 
 -- there is room for the field behind the menu
 fits : (written : After-write-size) → length (menu_of written.args.self.now.count written.args.self.now.offer) + length (field_of written.args.blocks.now) ≤ length written.args.out.now
