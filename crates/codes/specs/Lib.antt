@@ -3,3 +3,4 @@ pub mod Hearing
 pub mod Reading
 pub mod Choosing
 pub mod Steps
+pub mod Inner

@@ -13,14 +13,16 @@ ghost use Rattle.codes.specs.Writing.{kind_of, write_code, cut_said};
 ghost use Rattle.codes.specs.Hearing.{told_code, span_code, act_coded};
 ghost use Rattle.codes.specs.Reading.{looked_code, cut_looked, no_offer};
 ghost use Rattle.codes.specs.Choosing.{choice_code, source_code};
+ghost use Rattle.codes.specs.Inner.{report_code, length_code, place_code, mode_code};
 ghost use Rattle.codes.specs.Steps.{no_session, step_code, carried_of};
 
 use choices::Choice;
-use listening::{Heard, LastSpan, Listener};
-use menus::{Found, Offer};
+use items::Item;
+use listening::{Heard, Listener};
+use menus::Offer;
 use octets::Kind;
 use offers::Source;
-use refusals::{Refusal, Wrote};
+use refusals::Refusal;
 use steps::{Answer, Session};
 
 // A tag that is nowhere: no place is as high.
@@ -36,7 +38,7 @@ const NOTHING_CARRIED: u8 = 255;
 pub fn refusal_code(r: Refusal) -> i32
     ensures { result ≡ neg_ℤ (pos (number r)) }
 {
-    0 - refusals::refusal_number(r) as i32
+    -i32::from(u8::from(r))
 }
 
 // How many there are, as far as an i32 holds that; what is counted here is shown to be less.
@@ -47,57 +49,54 @@ fn count_code(n: usize) -> i32
 }
 
 // How many were written, or why nothing was.
-pub fn wrote_code(w: Wrote) -> i32
+pub fn wrote_code(w: Result<usize, Refusal>) -> i32
     ensures { result ≡ write_code (cut_said (says_wrote w)) }
 {
-    match w {
-        Wrote::Count(n) => count_code(n),
-        Wrote::Refused(r) => refusal_code(r),
-    }
-}
-
-// A kind as a number asks for it.
-#[derive(Clone, Copy)]
-pub enum Asked {
-    Known(Kind),
-    Unknown,
+    w.map_or_else(refusal_code, count_code)
 }
 
 // 1 for CI, 2 for a menu.
-pub fn kind_of(kind: u8) -> Asked
+pub fn kind_of(kind: u8) -> Option<Kind>
     ensures { result ≡ kind_of kind }
 {
-    if kind == 1 {
-        return Asked::Known(Kind::Ci);
+    match kind {
+        1 => Some(Kind::Ci),
+        2 => Some(Kind::Menu),
+        _ => None,
     }
-    if kind == 2 {
-        return Asked::Known(Kind::Menu);
-    }
-    Asked::Unknown
 }
 
-// What was heard.
-pub fn heard_code(h: Heard) -> i32
-    ensures { result ≡ told_code (hearing.says_heard h) }
+fn report_code(h: Heard) -> i32
+    ensures { result ≡ report_code h }
 {
     match h {
         Heard::Nothing => 0,
         Heard::Ci(_) => 1,
-        Heard::Menu(_, agreed) => { if agreed { 3 } else { 2 } }
+        Heard::Menu(_, false) => 2,
+        Heard::Menu(_, true) => 3,
         Heard::Cj => 4,
-        Heard::Refused(r) => refusal_code(r),
     }
 }
 
-// The span of the message reported last: no message has one of 0.
-pub fn span_code(span: LastSpan) -> i32
+// What was heard.
+pub fn heard_code(h: Result<Heard, Refusal>) -> i32
+    ensures { result ≡ told_code (hearing.says_heard h) }
+{
+    h.map_or_else(refusal_code, report_code)
+}
+
+// A span as it is; no message has one of 0.
+fn length_code(span: Option<u16>) -> i32
+    ensures { result ≡ length_code span }
+{
+    span.map_or(0, i32::from)
+}
+
+// The span of the message reported last.
+pub fn span_code(span: Result<Option<u16>, Refusal>) -> i32
     ensures { result ≡ span_code (spans.says_span span) }
 {
-    match span {
-        LastSpan::Nothing => 0,
-        LastSpan::Bits(n) => n as i32,
-        LastSpan::Refused(r) => refusal_code(r),
-    }
+    span.map_or_else(refusal_code, length_code)
 }
 
 // The second part of a bit: the record behind it, and its report as a number.
@@ -110,25 +109,25 @@ pub struct Acted {
 pub fn act_code(rec: Listener, act: u32) -> Acted
     ensures { result ≡ act_coded rec act }
 {
-    let ear = rec.ear;
-    let msg = rec.msg;
-    let last = rec.last;
-    let report = listening::tell(act, msg, last);
+    let Listener { ear, msg, last } = rec;
     Acted {
         rec: listening::listener_of(ear, listening::act_on(msg, last, act, ear.past)),
-        code: heard_code(report),
+        code: heard_code(listening::tell(act, msg, last)),
     }
 }
 
-// Where a tag stands: its place, 64 where it is nowhere.
-pub fn found_code(f: Found) -> i32
+// A place, 64 for nowhere.
+fn place_code(place: Option<usize>) -> i32
+    ensures { result ≡ place_code place }
+{
+    place.map_or(NOWHERE, count_code)
+}
+
+// Where a tag stands.
+pub fn found_code(f: Result<Option<usize>, Refusal>) -> i32
     ensures { result ≡ looked_code (cut_looked (groups.says_found f)) }
 {
-    match f {
-        Found::At(place) => count_code(place),
-        Found::Nothing => NOWHERE,
-        Found::Refused(r) => refusal_code(r),
-    }
+    f.map_or_else(refusal_code, place_code)
 }
 
 // What stands beside a menu's refusal.
@@ -156,16 +155,22 @@ pub fn source_code(source: Source) -> u8
     }
 }
 
-// A choice: an item is below 16, PCM options are above.
-pub fn choice_code(choice: Choice) -> i32
-    ensures { result ≡ choice_code (says_choice choice) }
+// An item is below 16, PCM options are above.
+fn mode_code(choice: Choice) -> i32
+    ensures { result ≡ mode_code choice }
 {
     match choice {
         Choice::Nothing => 0,
-        Choice::Mode(item) => item.0 as i32,
-        Choice::Pcm(options) => (16 + options as u16) as i32,
-        Choice::Refused(r) => refusal_code(r),
+        Choice::Mode(Item(item)) => i32::from(item),
+        Choice::Pcm(options) => 16 + i32::from(options),
     }
+}
+
+// What both ends go on with.
+pub fn choice_code(choice: Result<Choice, Refusal>) -> i32
+    ensures { result ≡ choice_code (says_choice choice) }
+{
+    choice.map_or_else(refusal_code, mode_code)
 }
 
 // What stands beside a refused start.
@@ -183,17 +188,23 @@ pub fn no_session() -> Session
     }
 }
 
-// The answer to a step: a state is below 16, the ways to end are above, choices to go on with from 32 on.
-pub fn step_code(answer: Answer) -> i32
-    ensures { result ≡ step_code (stepping.says_answer answer) }
+// A state is below 16, the ways to end are above, choices to go on with from 32 on.
+fn taken_code(answer: Answer) -> i32
+    ensures { result ≡ step_code (stepping.says_answered answer) }
 {
     match answer {
         Answer::Same => 0,
-        Answer::Entered(state) => state as i32,
-        Answer::Ended(how) => (16 + how as u16) as i32,
-        Answer::GoOn(choice) => (32 + choice as u16) as i32,
-        Answer::Refused(r) => refusal_code(r),
+        Answer::Entered(state) => i32::from(state),
+        Answer::Ended(how) => 16 + i32::from(how),
+        Answer::GoOn(choice) => 32 + i32::from(choice),
     }
+}
+
+// The answer to a step.
+pub fn step_code(answer: Result<Answer, Refusal>) -> i32
+    ensures { result ≡ step_code (stepping.says_answer answer) }
+{
+    answer.map_or_else(refusal_code, taken_code)
 }
 
 // What an event carries, from the code of a choice or an item: 255 for a number that no event may carry.

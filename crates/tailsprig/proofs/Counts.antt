@@ -14,8 +14,9 @@ use mir.Syntax.{w32}
 use mir.Val.{to_z, of_z}
 use Rattle.laws.proofs.Logic.{either_way}
 use Rattle.refusals.specs.Refusals.{before}
-use Rattle.refusals.specs.declared.Wrote.{Wrote}
-use Rattle.refusals.specs.Lent.{Said, count, refusal, says_wrote, WriteOutcome, room_fault, put, Meets}
+use Rattle.std.specs.Prelude.{Result}
+use Rattle.refusals.specs.declared.Refusal.{Refusal}
+use Rattle.refusals.specs.Lent.{Said, count, says_wrote, WriteOutcome, room_fault, put, Meets}
 use Rattle.octets.specs.declared.Kind.{Kind}
 use Rattle.octets.specs.declared.Purpose.TheVariants.{Reading, Writing}
 use Rattle.octets.specs.Lists.{list_fault}
@@ -73,7 +74,7 @@ jm_whole own heard_cm out =
     put_whole _ menu out
     (λ e. omega (arith, size_short menu (before_none (size_fault menu) _ (before_none (list_fault Reading heard_cm) others (before_none (record_fault own) _ e).1).1).0))
 
-pub returns_as : (laid : WriteOutcome) (w : Wrote) (after : List ℕ) (r : ℤ) → Whole laid.answer → Meets laid w after → mag r < 2 ^ 31 → r ≡ write_code (cut_said (says_wrote w)) → Returns laid (to_z w32 (of_z w32 r)) after
+pub returns_as : (laid : WriteOutcome) (w : Result ℕ Refusal) (after : List ℕ) (r : ℤ) → Whole laid.answer → Meets laid w after → mag r < 2 ^ 31 → r ≡ write_code (cut_said (says_wrote w)) → Returns laid (to_z w32 (of_z w32 r)) after
 returns_as laid w after r whole m fits e = record {
   answer = read_answer r fits ∙ e ∙ ap (λ (said : Said). write_code (cut_said said)) m.answer ∙ ap write_code whole;
   buffer = m.buffer;

@@ -21,27 +21,39 @@ ghost use Rattle.steps.specs.Drawing.{drawn};
 ghost use Rattle.codes.specs.Steps.{carried_of};
 ghost use Rattle.codes.specs.Writing.{kind_of, written_as};
 ghost use Rattle.codes.specs.Reading.{looked_code};
+ghost use Rattle.tailsprig.specs.Inner.{value_beside, code_beside};
 ghost use Rattle.tailsprig.specs.Exports.{Returns, HearsAs, RunsAs, ReadsAs, AsksAs, WalksAs, StartsAs, StepsAs, DrawsAs};
 
-use codes::Asked;
-use fields::{Block, Walk};
+use fields::Block;
 use framing::NOTHING;
 use items::Item;
 use listening::{Heard, Listener};
-use menus::{AskedItem, Offer, ReadMenu};
+use menus::Offer;
 use records::Record;
-use refusals::{Refusal, Wrote};
-use steps::{Session, Started};
+use refusals::Refusal;
+use steps::Session;
+
+// What is answered, or what stands beside a refusal, and the code: 0, or a refusal n as -n.
+fn beside<T>(answer: Result<T, Refusal>, refused: T) -> (T, i32)
+where
+    T: Copy,
+    ensures value { result.0 ≡ value_beside answer refused }
+    ensures code { result.1 ≡ code_beside answer }
+{
+    match answer {
+        Ok(value) => (value, 0),
+        Err(r) => (refused, codes::refusal_code(r)),
+    }
+}
 
 #[unsafe(no_mangle)]
 pub extern "C" fn tailsprig_write(kind: u8, octets: &[u8], copies: u16, out: &mut [u8]) -> i32
     ensures { Returns (written_as (kind_of kind) octets.now copies out.old) result out.new }
 {
-    let asked = codes::kind_of(kind);
-    let Asked::Known(known) = asked else {
+    let Some(kind) = codes::kind_of(kind) else {
         return codes::refusal_code(Refusal::BadRecord);
     };
-    codes::wrote_code(sequences::write(known, octets, copies, out))
+    codes::wrote_code(sequences::write(kind, octets, copies, out))
 }
 
 #[unsafe(no_mangle)]
@@ -92,12 +104,12 @@ pub extern "C" fn tailsprig_hear(rec: &mut Listener, bit: u8) -> i32
 }
 
 // The record goes on as the field that it is: bound to a name it would be copied once more.
-fn ran_of(rec: Listener, taken: usize, report: Heard) -> Ran
+fn ran_of(rec: Listener, taken: usize, report: Result<Heard, Refusal>) -> Ran
     ensures { RunsAs (record { report = says_heard report; rec = rec; taken = taken }) result }
 {
     Ran {
-        rec: rec,
-        taken: taken,
+        rec,
+        taken,
         code: codes::heard_code(report),
     }
 }
@@ -150,17 +162,8 @@ pub extern "C" fn tailsprig_part(octets: &[u8], place: usize) -> usize
 pub extern "C" fn tailsprig_read(octets: &[u8]) -> MenuRead
     ensures { ReadsAs (menu_read octets.now) result }
 {
-    let menu = menus::read(octets);
-    match menu {
-        ReadMenu::Offers(offer) => MenuRead {
-            offer: offer,
-            code: 0,
-        },
-        ReadMenu::Refused(r) => MenuRead {
-            offer: codes::no_offer(),
-            code: codes::refusal_code(r),
-        },
-    }
+    let (offer, code) = beside(menus::read(octets), codes::no_offer());
+    MenuRead { offer, code }
 }
 
 // An item that is asked for, as C gets it: 1 or 0 and how many octets were looked at, or a refusal and none.
@@ -176,13 +179,12 @@ pub struct ItemAsked {
 pub extern "C" fn tailsprig_asks(octets: &[u8], item: u8) -> ItemAsked
     ensures { AsksAs (asked octets.now item) result }
 {
-    let asked = menus::asks(octets, Item(item));
-    match asked {
-        AskedItem::Answer(offered, looked) => ItemAsked {
-            looked: looked,
-            code: if offered { 1 } else { 0 },
+    match menus::asks(octets, Item(item)) {
+        Ok(asked) => ItemAsked {
+            looked: asked.looked,
+            code: i32::from(asked.offered),
         },
-        AskedItem::Refused(r) => ItemAsked {
+        Err(r) => ItemAsked {
             looked: 0,
             code: codes::refusal_code(r),
         },
@@ -210,14 +212,8 @@ pub struct BlocksRead {
 pub extern "C" fn tailsprig_blocks(octets: &[u8]) -> BlocksRead
     ensures { WalksAs (walked octets.now) result }
 {
-    let walked = fields::walk_blocks(octets);
-    match walked {
-        Walk::Blocks(n) => BlocksRead { blocks: n, code: 0 },
-        Walk::Refused(r) => BlocksRead {
-            blocks: 0,
-            code: codes::refusal_code(r),
-        },
-    }
+    let (blocks, code) = beside(fields::walk_blocks(octets), 0);
+    BlocksRead { blocks, code }
 }
 
 // The block of a number, where all are blocks.
@@ -293,19 +289,11 @@ pub struct BitsDrawn {
     pub code: i32,
 }
 
-fn caller_start(started: Started) -> CallerStart
+fn caller_start(started: Result<Session, Refusal>) -> CallerStart
     ensures { StartsAs (says_started started) result }
 {
-    match started {
-        Started::Ready(session) => CallerStart {
-            session: session,
-            code: 0,
-        },
-        Started::Refused(r) => CallerStart {
-            session: codes::no_session(),
-            code: codes::refusal_code(r),
-        },
-    }
+    let (session, code) = beside(started, codes::no_session());
+    CallerStart { session, code }
 }
 
 // A caller's session from this time on, with a given Te, and with the cadence of its CI.
@@ -349,11 +337,9 @@ pub extern "C" fn tailsprig_step(session: Session, event: u8, value: i32, now: u
     ensures { StepsAs (stepped session event (carried_of value) now) result }
 {
     let taken = steps::step(session, event, codes::carried(value), now);
-    let next = taken.session;
-    let answer = taken.answer;
     StepTaken {
-        session: next,
-        code: codes::step_code(answer),
+        session: taken.session,
+        code: codes::step_code(taken.answer),
     }
 }
 
@@ -363,18 +349,10 @@ pub extern "C" fn tailsprig_draw(session: Session, out: &mut [u8]) -> BitsDrawn
     ensures { DrawsAs (drawn session out.old) result out.new }
 {
     let given = steps::draw(session, out);
-    let next = given.session;
-    let answer = given.answer;
-    match answer {
-        Wrote::Count(n) => BitsDrawn {
-            session: next,
-            bits: n,
-            code: 0,
-        },
-        Wrote::Refused(r) => BitsDrawn {
-            session: next,
-            bits: 0,
-            code: codes::refusal_code(r),
-        },
+    let (bits, code) = beside(given.answer, 0);
+    BitsDrawn {
+        session: given.session,
+        bits,
+        code,
     }
 }

@@ -1,17 +1,18 @@
--- `codes::kind_of` meets its contract: the number decides in the order of `kind_of`, first 1, then 2.
+-- `codes::kind_of` meets its contract: the tests of `kind_of`, in its order.
 -- Assumes nothing.
-use borrow.Author.Tests.{eq-eqb, ne_eqb}
+use native.Mathlib.Omega.{arith}
+use borrow.Author.Tests.{ne_eqb}
 use Rattle.laws.specs.Logic.{when}
 use Rattle.codes.proofs.kind_of.Goals as goal
 
-pub returns-then-kind-eq1 : goal.returns-then-kind-eq1
+pub returns-in-1 : goal.returns-in-1
 unfolding when
-returns-then-kind-eq1 c = simp (eq-eqb _ _ c.if-kind-eq1.true)
+returns-in-1 c = simp c.in-1.is
 
-pub returns-then-kind-eq2 : goal.returns-then-kind-eq2
+pub returns-in-2 : goal.returns-in-2
 unfolding when
-returns-then-kind-eq2 c = simp (eq-eqb _ _ c.if-kind-eq2.true, ne_eqb _ _ c.if-kind-eq1.false)
+returns-in-2 c = simp c.in-2.is
 
-pub returns : goal.returns
+pub returns-in_default : goal.returns-in_default
 unfolding when
-returns c = simp (ne_eqb _ _ c.if-kind-eq2.false, ne_eqb _ _ c.if-kind-eq1.false)
+returns-in_default c = simp (ne_eqb c.args.kind 1 (omega arith), ne_eqb c.args.kind 2 (omega arith))

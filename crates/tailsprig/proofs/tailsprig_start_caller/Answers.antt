@@ -1,6 +1,0 @@
--- `tailsprig::tailsprig_start_caller` meets its contract: the start goes out as it is.
--- Assumes nothing.
-use Rattle.tailsprig.proofs.tailsprig_start_caller.Goals as goal
-
-pub returns : goal.returns
-returns c = rw c.start_caller.ensures at c.caller_start.ensures
