@@ -109,10 +109,14 @@ pub struct Acted {
 pub fn act_code(rec: Listener, act: u32) -> Acted
     ensures { result ≡ act_coded rec act }
 {
-    let Listener { ear, msg, last } = rec;
+    // Field by field: taken apart by one pattern the record is copied whole, by a memcpy, which the library has none of.
+    let ear = rec.ear;
+    let msg = rec.msg;
+    let last = rec.last;
+    let report = listening::tell(act, msg, last);
     Acted {
         rec: listening::listener_of(ear, listening::act_on(msg, last, act, ear.past)),
-        code: heard_code(listening::tell(act, msg, last)),
+        code: heard_code(report),
     }
 }
 
