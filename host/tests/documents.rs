@@ -47,28 +47,38 @@ struct Function {
     changes: Vec<String>,
 }
 
-/// The public functions of a source, by name.
+/// The public functions of a source, by name; a method behind its type. What a conversion gives is said by its impl.
 fn public_functions(source: &str) -> BTreeMap<String, Function> {
     let mut found = BTreeMap::new();
     let lines: Vec<&str> = source.lines().collect();
+    let mut of = String::new();
     for (at, line) in lines.iter().enumerate() {
-        let Some(rest) = line.strip_prefix("pub fn ").or_else(|| line.strip_prefix("pub extern \"C\" fn ")) else {
+        if let Some((_, head)) = line.split_once("impl").filter(|(before, _)| before.is_empty()) {
+            let named = head.trim_end_matches('{').rsplit(" for ").next().unwrap_or_default().trim();
+            let named = named.strip_prefix("<'a> ").unwrap_or(named);
+            of = format!("{}::", named.split('<').next().unwrap_or_default());
+        } else if *line == "}" {
+            of.clear();
+        }
+        let converts = line.trim() == "fn from(r: Refusal) -> u8 {";
+        let Some(rest) = line.trim_start().strip_prefix("pub fn ").or_else(|| line.strip_prefix("pub extern \"C\" fn ")).or(converts.then_some("from")) else {
             continue;
         };
         let name: String = rest.chars().take_while(|c| c.is_alphanumeric() || *c == '_').collect();
-        let head: Vec<&str> = lines[at..].iter().copied().take_while(|line| *line != "{").collect();
+        let head: Vec<&str> = lines[at..].iter().copied().take_while(|line| line.trim() != "{" && !line.ends_with(") -> u8 {")).collect();
         let clauses = |word: &str| head.iter().filter(|line| line.trim_start().starts_with(word)).copied().collect::<Vec<_>>();
         let signature: String = head.iter().take_while(|line| !line.trim_start().starts_with("ensures")).copied().collect();
         let changes = signature
-            .split(['(', ','])
+            .split(['(', ',', ')'])
             .filter(|parameter| parameter.contains("&mut "))
-            .filter_map(|parameter| Some(parameter.split_once(':')?.0.trim().to_string()))
+            .map(|parameter| parameter.split_once(':').map_or("self", |(name, _)| name).trim().to_string())
             .collect();
+        let gives = lines[..at].iter().rev().find(|line| line.trim_start().starts_with("ghost from_gives"));
         found.insert(
-            name,
+            format!("{of}{name}"),
             Function {
                 requires: !clauses("requires").is_empty(),
-                ensures: clauses("ensures").join("\n"),
+                ensures: if converts { gives.copied().unwrap_or_default().to_string() } else { clauses("ensures").join("\n") },
                 changes,
             },
         );
@@ -89,7 +99,7 @@ fn calls(source: &str) -> BTreeMap<String, BTreeSet<String>> {
     let mut bodies: BTreeMap<String, String> = BTreeMap::new();
     let mut name = String::new();
     for line in source.lines() {
-        if let Some((_, rest)) = line.split_once("fn ").filter(|(before, _)| ["", "pub ", "pub extern \"C\" "].contains(before)) {
+        if let Some((_, rest)) = line.trim_start().split_once("fn ").filter(|(before, _)| ["", "pub ", "pub extern \"C\" "].contains(before)) {
             name = rest.chars().take_while(|c| c.is_alphanumeric() || *c == '_').collect();
             bodies.insert(name.clone(), String::new());
         } else if let Some(body) = bodies.get_mut(&name) {
@@ -161,12 +171,15 @@ fn names() -> BTreeSet<String> {
     names
 }
 
-/// What a source in Rattle or Rust declares.
+/// What a source in Rattle or Rust declares, the cases of its enums among that.
 fn declared(source: &str) -> Vec<String> {
+    let is_case = |line: &&str| line.starts_with("    ") && line[4..].starts_with(char::is_uppercase) && line.ends_with(',');
+    let cases = source.lines().filter(is_case).map(|line| line[4..].trim_end_matches(',').split('(').next().unwrap_or_default().to_string());
     source
         .lines()
         .flat_map(|line| ["fn ", "struct ", "enum ", "const "].into_iter().filter_map(move |word| Some(line.split_once(word)?.1)))
         .map(|rest| rest.chars().take_while(|c| c.is_alphanumeric() || *c == '_').collect())
+        .chain(cases)
         .collect()
 }
 
@@ -221,7 +234,8 @@ fn every_public_function_has_its_wrong_programs() {
             .flat_map(|path| wrong_programs(&read(path)).map(|(_, place)| place).collect::<Vec<_>>())
             .collect();
         for name in public_functions(&source).into_keys() {
-            let reached = reached(&BTreeSet::from([name.clone()]), &calls);
+            let called = name.rsplit("::").next().unwrap_or_default().to_string();
+            let reached = reached(&BTreeSet::from([called]), &calls);
             let tried = wrong.iter().filter(|place| reached.contains(*place)).count();
             if tried < 2 {
                 lacking.push(format!("{krate}::{name}: {tried}"));
