@@ -1,7 +1,7 @@
 -- No event changes Te, and a session in range that is quiet has chosen nothing: so wherever events lead a caller to quiet it is the same session but for
 -- its entry time, and the table's line for quiet says what a tick does to it.
 -- Assumes nothing.
-use Prim.Native.Nat.{ℕ, ◌-◌, ◌<◌, ◌≤◌, ◌^◌}
+use Prim.Native.Nat.{ℕ, ◌+◌, ◌%◌, ◌-◌, ◌<◌, ◌≤◌, ◌^◌}
 use native.Mathlib.Nat.{mod-eq_of_lt}
 use native.Mathlib.Omega.{arith}
 use mathlib.Core.Path.{◌≡◌, refl, sym, ap, subst, ◌∙◌}
@@ -26,7 +26,6 @@ use Rattle.steps.specs.Session.{caller, is_te, choice_fits, ended_fits, in_range
 use Rattle.steps.specs.Stepping.{StepOutcome, elapsed, timed, stepped_in, stepped}
 use Rattle.steps.specs.Drawing.{drawn}
 use Rattle.steps.specs.Runs.{Act, run}
-use Rattle.steps.proofs.Clock.{difference_is_elapsed}
 use Rattle.steps.proofs.Ranges.{range_fits, caller_start_is_in_range, step_keeps_range, draw_keeps_range}
 use Rattle.steps.proofs.Runs.{run_keeps_range, run_keeps_te}
 use Rattle.steps.proofs.Ticks.{between_true}
@@ -43,6 +42,11 @@ as_quiet te s inside te-is end_is state-is =
     let chosen_is : s.chosen ≡ 0 = eqb-true _ _ (sym (ap (λ (state : ℕ). choice_fits state (eqb s.chosen 0)) state-is) ∙ fits.chosen) in
     let ended_is : s.ended ≡ going = eqb-true _ _ (sym (ap (λ (state : ℕ). ended_fits state (eqb s.chosen 0) s.ended) state-is) ∙ fits.ended) in
     rw (te-is, end_is, state-is, chosen_is, ended_is)
+
+-- the difference that wraps is the elapsed time
+difference_is_elapsed : (now entry d : ℕ) → now < 2 ^ 32 → entry < 2 ^ 32 → d < 2 ^ 32 → (d + entry) % 2 ^ 32 ≡ now → d ≡ elapsed now entry
+unfolding elapsed
+difference_is_elapsed now entry d n e h w = omega arith
 
 -- what has passed by the clock is elapsed
 by_the_clock : (passed time : ℕ) → passed < 2 ^ 32 → time < 2 ^ 32 → elapsed (later passed time) time ≡ passed

@@ -28,8 +28,7 @@ use Rattle.menus.specs.Groups.{group_of}
 use Rattle.fields.specs.Blocks.{blocks_fault}
 use Rattle.fields.specs.Field.{field_tag, field_octets, packing_fault}
 use Rattle.offers.specs.Making.{record_fault, function_fault, size_fault}
-use Rattle.codes.specs.declared.Asked.{Asked}
-use Rattle.codes.specs.declared.Asked.TheVariants.{Known, Unknown}
+use Rattle.std.specs.Prelude.{Option, Some, None}
 use Rattle.codes.specs.Writing.{written_as}
 use Rattle.framing.specs.declared.Turned.{Turned}
 use Rattle.framing.specs.Framing.{report, tell_cj, refusal_in, turned_by}
@@ -108,9 +107,9 @@ keeps_behind faults new out = put_keeps _ new out (λ e. room_tested new out (be
 written_keeps : (kind : Kind) (octets : List ℕ) (n : ℕ) (out : List ℕ) → KeepsItsBytes out (written kind octets n out)
 written_keeps kind octets n out = keeps_behind (list_fault (Writing kind) octets ∷ []) (copies n (sequence kind octets)) out
 
-as_asked_lem : (asked : Asked) (octets : List ℕ) (n : ℕ) (out : List ℕ) → KeepsItsBytes out (written_as asked octets n out)
-as_asked_lem (Known kind) octets n out = written_keeps kind octets n out
-as_asked_lem Unknown octets n out = record { refused = λ r said. refl; later = λ size said. absurd (let z : ⊥ = omega (arith, ap count_said said) in z); whole = refl }
+as_asked_lem : (asked : Option Kind) (octets : List ℕ) (n : ℕ) (out : List ℕ) → KeepsItsBytes out (written_as asked octets n out)
+as_asked_lem (Some kind) octets n out = written_keeps kind octets n out
+as_asked_lem None octets n out = record { refused = λ r said. refl; later = λ size said. absurd (let z : ⊥ = omega (arith, ap count_said said) in z); whole = refl }
 
 -- asking for bits: what is refused writes nothing, and what is given stands at the front
 unwritten : (said : Said) (out : List ℕ) → KeepsItsBytes out (record { answer = said; buffer = out })

@@ -2,7 +2,7 @@
 -- never has to test first. A refusal writes nothing into a lent buffer, and what it leaves in the listening record and the session is laid
 -- down." That a call takes every input is that no public function has a `requires`: a test reads that in the code (host/tests/documents.rs).
 -- What the others say is here, for every input.
-use Rattle.std.specs.Prelude.{ℕ, ◌<◌, ◌+◌, ◌≡◌, Bool, true, false, List, [], ◌∷◌, ◌++◌, eqb, length, drop}
+use Rattle.std.specs.Prelude.{ℕ, Option, ◌<◌, ◌+◌, ◌≡◌, Bool, true, false, List, [], ◌∷◌, ◌++◌, eqb, length, drop}
 use Rattle.laws.specs.Logic.{when, either}
 use Rattle.octets.specs.declared.Kind.{Kind}
 use Rattle.sequences.specs.Line.{ten_ones}
@@ -23,7 +23,6 @@ use Rattle.steps.specs.Session.{Start, ready, answerer_from, started_caller}
 use Rattle.steps.specs.Stepping as stepping
 use Rattle.steps.specs.Stepping.{refused_step, stepped}
 use Rattle.steps.specs.Drawing.{drawn}
-use Rattle.codes.specs.declared.Asked.{Asked}
 use Rattle.codes.specs.Writing.{written_as}
 
 -- one of the numbers
@@ -43,7 +42,7 @@ pub record KeepsItsBytes (out : List ℕ) (laid : WriteOutcome) : Type 0 where
 -- every call that writes
 pub record LentBuffersKeepTheirBytes : Type 0 where
   pub writing : (kind : Kind) (octets : List ℕ) (n : ℕ) (out : List ℕ) → KeepsItsBytes out (written kind octets n out)
-  pub writing_as : (asked : Asked) (octets : List ℕ) (n : ℕ) (out : List ℕ) → KeepsItsBytes out (written_as asked octets n out)
+  pub writing_as : (asked : Option Kind) (octets : List ℕ) (n : ℕ) (out : List ℕ) → KeepsItsBytes out (written_as asked octets n out)
   pub writing_cj : (out : List ℕ) → KeepsItsBytes out (written_cj out)
   pub making_cm : (own : Record) (function : ℕ) (blocks out : List ℕ) → KeepsItsBytes out (made_cm own function blocks out)
   pub making_jm : (own : Record) (heard_cm out : List ℕ) → KeepsItsBytes out (made_jm own heard_cm out)
