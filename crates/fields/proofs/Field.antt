@@ -1,21 +1,20 @@
 -- The field: none for no octets, and how long it is otherwise.
 -- Assumes nothing.
-use Prim.Native.Nat.{ℕ, ◌+◌, ◌*◌, ◌%◌, ◌<◌, ◌≤◌}
+use Prim.Native.Nat.{ℕ, ◌+◌, ◌<◌, ◌≤◌}
 use native.Mathlib.Nat.{not-suc-le-zero}
 use native.Mathlib.Omega.{arith}
 use mathlib.Core.Path.{◌≡◌, refl, ap, ◌∙◌}
 use mathlib.Core.Bool.{Bool, true, false}
 use mathlib.Core.List.{List, [], ◌∷◌}
 use borrow.Author.Tests.{eq-eqb, ne_eqb}
-use lib.Dec.{leb, eqb}
-use lib.ListN.{length, drop, set}
-use Rattle.laws.specs.Logic.{when, both}
+use lib.Dec.{eqb}
+use lib.ListN.{length, set}
+use Rattle.laws.specs.Logic.{when}
 use Rattle.laws.specs.Front.{front}
 use Rattle.laws.proofs.Logic.{either_way}
 use Rattle.laws.specs.Tests.{every}
 use Rattle.octets.specs.Octets.{category_octet}
-use Rattle.menus.specs.Groups.{options_in}
-use Rattle.fields.specs.Packing.{left_over, extensions_for, packed}
+use Rattle.fields.specs.Packing.{extensions_for, packed}
 use Rattle.fields.specs.Blocks.{blocks_of, fits, blocks_fault}
 use Rattle.fields.specs.Field.{field_tag, is_packed, packing_fault, field_of}
 use Rattle.fields.proofs.Packing.{packed_length}
@@ -62,10 +61,6 @@ accepted_if true e = refl
 accepted_if false e = absurd (let z : ⊥ = omega (arith, e) in z)
 
 module _ (group : List ℕ) where
-  pub packed_by : (chosen size left : ℕ) → chosen ≡ options_in group → size ≡ length (drop 1 group) → left ≡ left_over (drop 1 group)
-      → both (eqb chosen 0) (both (leb (5 * size % 8) 4) (eqb left 0)) ≡ is_packed group
-  packed_by chosen size left e f g = rw (e, f, g)
-
   pub packed_well : is_packed group ≡ true → packing_fault group ≡ 0
   unfolding when
   packed_well e = simp e

@@ -14,3 +14,6 @@ pub returns-then-octets-place-2 : goal.returns-then-octets-place-2
 returns-then-octets-place-2 c =
     let args = c.args in
     c.no_block-then-octets-place-2.ensures ∙ none_there args.octets.now args.place (omega (arith, length_at args.octets.now args.place, c.if-octets-place-2.true))
+
+pub coded_block-requires : goal.coded_block-requires
+coded_block-requires c = record { size_value = length_at c.args.octets.now c.args.place; size_in_bounds = omega arith }
