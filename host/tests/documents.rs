@@ -107,10 +107,12 @@ fn calls(source: &str) -> BTreeMap<String, BTreeSet<String>> {
             body.push('\n');
         }
     }
-    // A name in front of a parenthesis; behind `::` it would be a function of another crate.
+    // A name in front of a parenthesis, or handed to a `map`; behind `::` it would be a function of another crate.
+    let is_other = |c: char| !(c.is_alphanumeric() || "_:".contains(c));
     let named = |body: &String| {
-        let heads = body.split('(').map(|head| head.rsplit(|c: char| !(c.is_alphanumeric() || "_:".contains(c))).next());
-        heads.flatten().map(str::to_string).filter(|word| bodies.contains_key(word)).collect()
+        let heads = body.split('(').map(|head| head.rsplit(is_other).next());
+        let handed = body.lines().filter(|line| line.contains(".map")).flat_map(|line| line.split(is_other)).map(Some);
+        heads.chain(handed).flatten().map(str::to_string).filter(|word| bodies.contains_key(word)).collect()
     };
     bodies.iter().map(|(name, body)| (name.clone(), named(body))).collect()
 }
