@@ -209,8 +209,8 @@ fn call_given(text: &[u8], plan: Plan) {
 
 // A plan: its call. A menu has room for fewer octets of blocks than are kept here, so what is cut off changes nothing.
 fn call(text: &[u8], plan: Plan) {
-    let given = given(text, plans::OF_BLOCKS);
-    let blocks = given.octets();
+    let kept = given(text, plans::OF_BLOCKS);
+    let blocks = kept.octets();
     if plan.function != plans::STRANGER {
         call_known(text, plan, blocks);
     } else if blocks.is_empty() {
