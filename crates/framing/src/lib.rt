@@ -18,7 +18,7 @@ pub struct Ear {
 }
 
 // The places of docs/RANGES.md: hunting; in a sync, up to its last bit; at an octet boundary; in an octet; at its stop position; and
-// behind the ending 1s, up to the last of them.
+// behind the ending 1s, up to the last of them. Numbers and no enum, as C holds them in an ear, which may be out of their range.
 pub const HUNTING: u32 = 0;
 
 const IN_SYNC: u32 = 1;
