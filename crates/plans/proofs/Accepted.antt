@@ -1,6 +1,6 @@
 -- What an accepted record has: its home function. So no mistake is found in it.
 -- Assumes nothing.
-use Rattle.std.proofs.Common.{◌≡◌, ℕ, zero, suc, ◌%◌, ◌<◌, Bool, true, false, eqb, refl, arith, ne_eqb, eqb-true}
+use Rattle.std.proofs.Common.{◌≡◌, ℕ, zero, suc, ◌%◌, ◌<◌, Bool, true, false, eqb, None, refl, arith, ne_eqb, eqb-true}
 use Rattle.laws.specs.Logic.{when, either}
 use Rattle.laws.proofs.Logic.{clash}
 use Rattle.records.specs.declared.Record.{Record}
@@ -28,7 +28,7 @@ module _ (own : Record) (accepted : bad_record own ≡ false) where
       go zero had = absurd (omega (arith, had))
       go (suc f) had = omega arith
 
-  pub no_mistake : record_mistake own ≡ 0
+  pub no_mistake : record_mistake own ≡ None
   unfolding record_mistake when
   no_mistake = simp (ne_eqb own.home 0 (λ e. omega (arith, e, home_some)), home_had, accepted)
 

@@ -1,13 +1,13 @@
 -- What a word does, the end of a line and the end of a text.
 -- Assumes nothing.
-use Rattle.std.proofs.Common.{◌≡◌, ℕ, ◌+◌, ◌*◌, ◌<◌, ◌≤◌, Bool, true, false, eqb, ◌⊎◌, List, Option, Ok, sym, refl, ap, ◌∙◌, inl, inr, arith, le-ltb, lt-ltb, eq-eqb, ne_eqb, eqb-true}
+use Rattle.std.proofs.Common.{◌≡◌, ℕ, ◌+◌, ◌*◌, ◌<◌, ◌≤◌, true, eqb, ◌⊎◌, List, Option, Some, None, is_some, Ok, sym, refl, ap, ◌∙◌, inl, inr, arith, le-ltb, lt-ltb, eq-eqb, ne_eqb, eqb-true}
 use Rattle.laws.specs.Logic.{when, either}
 use Rattle.laws.proofs.Logic.{either_way}
 use Rattle.names.specs.declared.Meaning.{Meaning}
 use Rattle.names.specs.Names.{end, line, function, mode, other_mode, part, wanted, quality, named}
 use Rattle.plans.specs.declared.Reading.{Reading}
 use Rattle.plans.specs.Text.{number, octet}
-use Rattle.plans.specs.Reading.{beginning, in_end, after_home, after_wants, after_call, after_te, after_damaged, first_bit, bits, done, first_octet, octets, after_cadence, after_on, after_answers, mistaken, going, say, name_function, name_home, name_mode, part_word, end_word, is_said, begin_named, behind_name, first_word, name_call, function_word, planning, name_word, named_word, number_word, octet_word, read_word, record_of, record_mistake, with_home, finish_end, finish_line, mistake, missing, with_default, finished, mode_first, twice, home, set_at, store, first_of}
+use Rattle.plans.specs.Reading.{beginning, in_end, after_home, after_wants, after_call, after_te, after_damaged, first_bit, bits, done, first_octet, octets, after_cadence, after_on, after_answers, mistaken, going, say, name_function, name_home, name_mode, part_word, end_word, is_said, begin_named, behind_name, first_word, name_call, function_word, name_word, named_word, number_word, octet_word, read_word, finish_line, mistake, unless, missing, with_default, finished, mode_first, twice, home, set_at, store, first_of}
 use Rattle.plans.specs.Inner.{lacking}
 
 -- a word that names something: the kind of that decides too
@@ -123,16 +123,6 @@ module _ (r : Reading) where
   line_stands no_end no_more no-list =
       simp (ne_eqb r.context in_end no_end, ne_eqb r.context beginning (λ here. no_more (inl here)), ne_eqb r.context bits (λ here. no-list (inl here)), ne_eqb r.context octets (λ here. no-list (inr here)), ne_eqb r.context done (λ here. no_more (inr here)))
 
--- the end of an end's line
-module _ (r line : Reading) (is-line : line ≡ with_home r) (wrong : ℕ) (is-wrong : wrong ≡ record_mistake (record_of line.plan line.end)) where
-  pub end_wrong : (wrong ≡ 0 → ⊥) → finish_end r ≡ mistaken line wrong
-  unfolding finish_end when
-  end_wrong some = simp (← is-line, ← is-wrong, ne_eqb wrong 0 some)
-
-  pub end_right : wrong ≡ 0 → finish_end r ≡ planning line line.plan.function line.plan.te beginning
-  unfolding finish_end when
-  end_right none = simp (← is-line, ← is-wrong, eq-eqb wrong 0 none)
-
 -- a number is asked for, or an octet, or a name
 module _ (r : Reading) (text : List ℕ) where
   pub number_asked :
@@ -159,23 +149,17 @@ module _ (r : Reading) (text : List ℕ) where
       simp (ne_eqb r.context after_te (λ here. none (inl here)), ne_eqb r.context after_cadence (λ here. none (inr here)), ne_eqb r.context after_on (λ here. none-behind (inr here)), ne_eqb r.context first_bit (λ here. none-behind (inl here)), ne_eqb r.context bits (λ here. no_bits (inl here)), ne_eqb r.context after_answers (λ here. no_bits (inr here)), ne_eqb r.context first_octet no_first, ne_eqb r.context octets no_octets, is-meant)
 
 -- the end of a text
-one_answer : {A : Type 0} (wrong : ℕ → A) (right : A) (t : Bool) (what missed : ℕ) → eqb what 0 ≡ t
-    → when t (when (eqb missed 0) right (wrong missed)) (wrong what) ≡ when (eqb (when t missed what) 0) right (wrong (when t missed what))
-unfolding when
-one_answer wrong right true what missed is = refl
-one_answer wrong right false what missed is = simp is
+module _ (r last : Reading) (at : ℕ) (is_last : last ≡ finish_line r) where
+  answered : finished r at ≡ unless (lacking last) at (Ok (with_default last.plan))
+  unfolding finished lacking when
+  answered = simp (← is_last) (go last.what)
+    where
+      go : (what : Option ℕ) → unless what at (unless (missing last.plan) at (Ok (with_default last.plan))) ≡ unless (when (is_some what) what (missing last.plan)) at (Ok (with_default last.plan))
+      go (Some what) = refl
+      go None = refl
 
-module _ (r last : Reading) (what at : ℕ) (is_last : last ≡ finish_line r) (is-what : what ≡ lacking last) where
-  answered : finished r at ≡ when (eqb what 0) (Ok (with_default last.plan)) (mistake what at)
-  unfolding finished lacking
-  answered =
-      simp (← is_last) (one_answer (λ (n : ℕ). mistake n at) (Ok (with_default last.plan)) (eqb last.what 0) last.what (missing last.plan) refl)
-      ∙ ap (λ (n : ℕ). when (eqb n 0) (Ok (with_default last.plan)) (mistake n at)) (sym is-what)
+  pub finish_wrong : (what : ℕ) → lacking last ≡ Some what → finished r at ≡ mistake what at
+  finish_wrong what wrong = answered ∙ ap (λ (w : Option ℕ). unless w at (Ok (with_default last.plan))) wrong
 
-  pub finish_wrong : (what ≡ 0 → ⊥) → finished r at ≡ mistake what at
-  unfolding when
-  finish_wrong wrong = answered ∙ simp (ne_eqb what 0 wrong)
-
-  pub finish_right : what ≡ 0 → finished r at ≡ Ok (with_default last.plan)
-  unfolding when
-  finish_right right = answered ∙ simp (eq-eqb what 0 right)
+  pub finish_right : lacking last ≡ None → finished r at ≡ Ok (with_default last.plan)
+  finish_right right = answered ∙ ap (λ (w : Option ℕ). unless w at (Ok (with_default last.plan))) right

@@ -1,6 +1,6 @@
 -- A text that is no mistake is a call that can be made, with the CM of a stranger where one calls: what is read stays good, line by line.
 -- Assumes nothing.
-use Rattle.std.proofs.Common.{◌≡◌, ℕ, ◌+◌, ◌%◌, ◌<◌, ◌≤◌, Bool, true, false, eqb, ltb, ◌⊎◌, List, [], ◌∷◌, ◌++◌, length, Result, Ok, Err, sym, refl, ap, ◌∙◌, subst, inl, inr, append_assoc, append-nil, arith, lit<, lit≤, ltb-true, eq-eqb, eqb-true}
+use Rattle.std.proofs.Common.{◌≡◌, ℕ, ◌+◌, ◌%◌, ◌<◌, ◌≤◌, Bool, true, false, eqb, ltb, ◌⊎◌, List, [], ◌∷◌, ◌++◌, length, Option, Some, None, Result, Ok, Err, sym, refl, ◌∙◌, subst, inl, inr, append_assoc, append-nil, arith, lit<, lit≤, ltb-true, eqb-true}
 use borrow.Author.Tests.{eqb-false}
 use Rattle.std.specs.Bool.{⊤}
 use Rattle.laws.specs.Logic.{when, both, either}
@@ -13,33 +13,33 @@ use Rattle.plans.specs.declared.Plan.{Plan}
 use Rattle.plans.specs.declared.Mistake.{Mistake}
 use Rattle.plans.specs.declared.Reading.{Reading}
 use Rattle.plans.specs.Text.{line_feed, word}
-use Rattle.plans.specs.Reading.{beginning, in_end, bits, octets, first_octet, stranger, done, default_on, default_off, default_answer, is_on, is_answer, no_function, home_not_had, pcm_alone, no_caller, no_answerer, no_call, place, home, set_at, store, lacks_call, planning, is_stranger, is_said, record_of, record_mistake, with_home, finish_end, may_end, finish_line, scan_after, begins_word, read_byte, no_plan, fresh, missing, with_default, finished, read_from, octet_at, one_octet, octets_from, octets_in, cm_in}
+use Rattle.plans.specs.Reading.{beginning, in_end, bits, octets, first_octet, stranger, done, default_on, default_off, default_answer, is_on, is_answer, no_function, home_not_had, pcm_alone, no_caller, no_answerer, no_call, place, home, set_at, store, lacks_call, planning, is_stranger, is_said, record_of, record_mistake, with_home, finish_end, may_end, finish_line, scan_after, begins_word, read_byte, no_plan, fresh, unless, or_mistaken, missing, with_default, finished, read_from, octet_at, one_octet, octets_from, octets_in, cm_in}
 use Rattle.plans.specs.Good.{GoodEnd, KnownCaller, Stranger, Good, PlansAreGood}
 use Rattle.plans.proofs.Cadences.{both_periods}
 use Rattle.plans.proofs.Marking.{zeros_at}
 use Rattle.plans.proofs.Marks.{are_octets}
 use Rattle.plans.proofs.Walk.{feeds_no_word}
 use Rattle.plans.proofs.KeptSets.{Fits, Sound, sound_at, fits_home, fits_none}
-use Rattle.plans.proofs.KeptLine.{Parts, Outside, within, Settled, cm_known, calling_on, settled_within, Kept, Later, call_had, no_names, kept_alone}
+use Rattle.plans.proofs.KeptLine.{Parts, Outside, within, Settled, cm_known, calling_on, settled_within, Kept, Later, not_none, call_had, no_names, kept_alone}
 use Rattle.plans.proofs.KeptWords.{at_context, settled_at, kept_going, kept_word}
 
 -- what is kept at the end of a line
 abbrev Ended : List ℕ → Reading → Type 0
-Ended cm r = r.what ≡ 0 → Kept cm r × Outside r.plan × Settled r.end r.context
+Ended cm r = r.what ≡ None → Kept cm r × Outside r.plan × Settled r.end r.context
 
-no_bad : (own : Record) → record_mistake own ≡ 0 → bad_record own ≡ false
+no_bad : (own : Record) → record_mistake own ≡ None → bad_record own ≡ false
 unfolding record_mistake when
 no_bad own right = go (eqb own.home 0) (eqb (in_use own own.home).available 1) (bad_record own) right
   where
-    go : (a b c : Bool) → when a no_function (when b (when c pcm_alone 0) home_not_had) ≡ 0 → c ≡ false
-    go true b c e = absurd (omega (arith, e))
-    go false true true e = absurd (omega (arith, e))
+    go : (a b c : Bool) → when a (Some no_function) (when b (when c (Some pcm_alone) None) (Some home_not_had)) ≡ None → c ≡ false
+    go true b c e = absurd (not_none e)
+    go false true true e = absurd (not_none e)
     go false true false e = refl
-    go false false c e = absurd (omega (arith, e))
+    go false false c e = absurd (not_none e)
 
 module _ (cm : List ℕ) (r : Reading) (kept : Kept cm r) where
   -- an end's line that names its home function
-  kept_planning : within r.context ≡ true → record_mistake (record_of r.plan r.end) ≡ 0 → Ended cm (planning r r.plan.function r.plan.te beginning)
+  kept_planning : within r.context ≡ true → record_mistake (record_of r.plan r.end) ≡ None → Ended cm (planning r r.plan.function r.plan.te beginning)
   unfolding planning both either
   kept_planning is-inside right made =
       let out : Outside r.plan = record { each = λ e low high some. go e low high some (eqb e r.end) refl; has_call = call_had (lacks_call r.plan) r.what made } in
@@ -62,10 +62,11 @@ module _ (cm : List ℕ) (r : Reading) (kept : Kept cm r) where
   unfolding finish_end
   kept_end is-inside =
       let now = kept_home cm r kept is-inside in
-      let what = record_mistake (record_of (with_home r).plan (with_home r).end) in
-      either_way (Ended cm) (eqb what 0) _ _
-      (λ right. kept_planning cm (with_home r) now.0 now.1 (eqb-true what 0 right))
-      (λ wrong right. clash (sym (eq-eqb what 0 right) ∙ wrong))
+      go (with_home r) (planning (with_home r) (with_home r).plan.function (with_home r).plan.te beginning) (record_mistake (record_of (with_home r).plan (with_home r).end)) (kept_planning cm (with_home r) now.0 now.1)
+    where
+      go : (line right : Reading) (what : Option ℕ) → (what ≡ None → Ended cm right) → Ended cm (or_mistaken line what right)
+      go line right (Some what) ends none = absurd (not_none none)
+      go line right None ends none = ends refl none
 
   -- where a line may end, it is no end's line, and no octet is asked for
   may_end_lem : may_end r.context ≡ true → (within r.context ≡ false) × Settled r.end r.context
@@ -93,7 +94,7 @@ module _ (cm : List ℕ) (r : Reading) (kept : Kept cm r) where
       let ends = may_end_lem t in
       let calling = calling_on kept.calling ends.1 r.end beginning (λ _ e. clash (sym e)) (λ _. refl) (λ e. absurd (omega (arith, e))) in
       (kept_going cm r kept cm beginning (sym ends.0) calling, kept.outside ends.0, λ e. absurd (omega (arith, e))))
-      (λ _ none. (kept, kept.outside (ap within none), λ e _. omega (arith, e, none))))
+      (λ _ none. absurd (not_none none)))
 
   kept_byte : (scan b : ℕ) (rest : List ℕ) → Later (cm ++ one_octet (octet_at 1 r scan b rest)) (read_byte r scan b rest)
   unfolding read_byte both when
@@ -105,14 +106,14 @@ module _ (cm : List ℕ) (r : Reading) (kept : Kept cm r) where
       (λ none. passed r none (λ _. kept)))
 
 -- nothing is missing from a plan
-three : (a b c : Bool) → when a (when b (when c 0 no_call) no_answerer) no_caller ≡ 0 → (a ≡ true) × (b ≡ true) × (c ≡ true)
+three : (a b c : Bool) → when a (when b (when c None (Some no_call)) (Some no_answerer)) (Some no_caller) ≡ None → (a ≡ true) × (b ≡ true) × (c ≡ true)
 unfolding when
 three true true true e = (refl, refl, refl)
-three true true false e = absurd (omega (arith, e))
-three true false c e = absurd (omega (arith, e))
-three false b c e = absurd (omega (arith, e))
+three true true false e = absurd (not_none e)
+three true false c e = absurd (not_none e)
+three false b c e = absurd (not_none e)
 
-all_said : (plan : Plan) → missing plan ≡ 0 → (either (is_stranger plan) (ltb 0 (set_at plan 1 home)) ≡ true) × (ltb 0 (set_at plan 2 home) ≡ true) × (ltb 0 plan.function ≡ true)
+all_said : (plan : Plan) → missing plan ≡ None → (either (is_stranger plan) (ltb 0 (set_at plan 1 home)) ≡ true) × (ltb 0 (set_at plan 2 home) ≡ true) × (ltb 0 plan.function ≡ true)
 unfolding missing is_said when
 all_said plan none_missing = three (either (is_stranger plan) (ltb 0 (set_at plan 1 home))) (ltb 0 (set_at plan 2 home)) (ltb 0 plan.function) none_missing
 
@@ -171,7 +172,7 @@ good_end plan end sound accepted = record {
     go f six false some = (fits f (omega (arith, six))).small (omega (arith, eqb-false f 0 some)) six
 
 -- the caller is a stranger, or is known
-good_caller : (plan : Plan) → Parts plan → Outside plan → ((k : ℕ) → k < 8 → plan.function ≡ stranger → set_at plan 1 k ≡ 0) → missing plan ≡ 0 → KnownCaller (with_default plan) ⊎ Stranger (with_default plan)
+good_caller : (plan : Plan) → Parts plan → Outside plan → ((k : ℕ) → k < 8 → plan.function ≡ stranger → set_at plan 1 k ≡ 0) → missing plan ≡ None → KnownCaller (with_default plan) ⊎ Stranger (with_default plan)
 unfolding record_of either
 good_caller plan parts out unsaid none_missing =
     let these = all_said plan none_missing in
@@ -187,7 +188,7 @@ good_caller plan parts out unsaid none_missing =
           called = is_called plan out.has_call known called;
         })
 
-good_plan : (cm : List ℕ) (r : Reading) → Kept cm r → Outside r.plan → missing r.plan ≡ 0 → Good (with_default r.plan)
+good_plan : (cm : List ℕ) (r : Reading) → Kept cm r → Outside r.plan → missing r.plan ≡ None → Good (with_default r.plan)
 unfolding record_of
 good_plan cm r kept out none_missing =
     let plan = r.plan in
@@ -205,18 +206,18 @@ abbrev Told : List ℕ → Result Plan Mistake → Type 0
 Told cm (Ok plan) = Good plan × (plan.function ≡ stranger → 0 < length cm) × ((plan.function ≡ stranger → ⊥) → cm ≡ [])
 Told cm (Err wrong) = ⊤
 
+unless_right : (cm : List ℕ) (what : Option ℕ) (at : ℕ) (right : Result Plan Mistake) → (what ≡ None → Told cm right) → Told cm (unless what at right)
+unless_right cm (Some what) at right told = tt
+unless_right cm None at right told = told refl
+
 good_finish : (cm : List ℕ) (r : Reading) (at : ℕ) → Kept cm r → Told cm (finished r at)
 unfolding finished
 good_finish cm r at kept =
     let last = finish_line r in
-    either_way (Told cm) (eqb last.what 0) _ _
+    unless_right cm last.what at _
     (λ right.
-    let now = kept_line cm r kept (eqb-true last.what 0 right) in
-    either_way (Told cm) (eqb (missing last.plan) 0) _ _
-    (λ none_missing.
-    (good_plan cm last now.0 now.1 (eqb-true (missing last.plan) 0 none_missing), cm_known now.0.calling now.2, now.0.calling.none))
-    (λ _. tt))
-    (λ _. tt)
+    let now = kept_line cm r kept right in
+    unless_right cm (missing last.plan) at _ (λ none_missing. (good_plan cm last now.0 now.1 none_missing, cm_known now.0.calling now.2, now.0.calling.none)))
 
 good_text : (text cm : List ℕ) (r : Reading) (scan at : ℕ) → Kept cm r → Told (cm ++ octets_from 1 r scan text) (read_from r scan at text)
 unfolding read_from octets_from
@@ -226,10 +227,9 @@ good_text (b ∷ rest) cm r scan at kept =
     let one = one_octet (octet_at 1 r scan b rest) in
     let others = octets_from 1 next (scan_after scan b) rest in
     let all = cm ++ (one ++ others) in
-    either_way (Told all) (eqb next.what 0) _ _
+    unless_right all next.what at _
     (λ right. subst (λ (list : List ℕ). Told list (read_from next (scan_after scan b) (at + 1) rest)) (append_assoc cm one others)
-    (good_text rest (cm ++ one) next (scan_after scan b) (at + 1) (kept_byte cm r kept scan b rest (eqb-true next.what 0 right))))
-    (λ _. tt)
+    (good_text rest (cm ++ one) next (scan_after scan b) (at + 1) (kept_byte cm r kept scan b rest right)))
 
 kept_fresh : Kept [] fresh
 unfolding lacks_call both either when

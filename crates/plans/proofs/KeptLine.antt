@@ -1,7 +1,7 @@
 -- What stays good while a text is read: an end whose line was read is accepted, the function called is the caller's, and of a stranger the CM is known,
 -- and nothing else. What an end's line says keeps it.
 -- Assumes nothing.
-use Rattle.std.proofs.Common.{◌≡◌, ℕ, ◌%◌, ◌<◌, ◌≤◌, Bool, true, false, eqb, ltb, ◌⊎◌, List, [], length, get_or, set, sym, refl, ap, ◌∙◌, inl, ⊎_elim, not-suc-le-zero, arith, lit<, lit≤, get_or-set_other}
+use Rattle.std.proofs.Common.{◌≡◌, ℕ, ◌%◌, ◌<◌, ◌≤◌, Bool, true, false, eqb, ltb, ◌⊎◌, List, [], length, get_or, set, Option, Some, None, is_some, sym, refl, ap, ◌∙◌, inl, ⊎_elim, not-suc-le-zero, arith, lit<, lit≤, get_or-set_other}
 use borrow.Author.Tests.{eqb-false}
 use Rattle.laws.specs.Logic.{when, both, either}
 use Rattle.laws.proofs.Logic.{either_way, clash}
@@ -98,14 +98,18 @@ pub record Holds (plan : Plan) (end last first context : ℕ) (cm : List ℕ) : 
 abbrev pub Kept : List ℕ → Reading → Type 0
 Kept cm r = Holds r.plan r.end r.function r.first r.context cm
 
+-- a mistake is made, or none is
+pub not_none : {n : ℕ} → Some n ≡ None → ⊥
+not_none e = clash (ap is_some e)
+
 -- what is kept where no mistake is made
 abbrev pub Later : List ℕ → Reading → Type 0
-Later cm r = r.what ≡ 0 → Kept cm r
+Later cm r = r.what ≡ None → Kept cm r
 
 -- a call that is no mistake is one that the caller has
-pub call_had : (lacks : Bool) (what : ℕ) → when lacks call_not_had what ≡ 0 → lacks ≡ false
+pub call_had : (lacks : Bool) (what : Option ℕ) → when lacks (Some call_not_had) what ≡ None → lacks ≡ false
 unfolding when
-call_had true what right = absurd (omega (arith, right))
+call_had true what right = absurd (not_none right)
 call_had false what right = refl
 
 -- the record of an end is that of its sets

@@ -15,7 +15,7 @@ use Rattle.plans.specs.Text.{number, no_octet, octet}
 use Rattle.plans.specs.Reading.{beginning, in_end, after_home, after_wants, after_call, after_te, after_damaged, first_bit, bits, done, first_octet, octets, sends_alone, octets_behind, cadence_behind, after_cadence, after_on, answers_behind, after_answers, default_on, default_off, stranger, twice, with_call, mistaken, going, begin_line, home, set_at, say, lacks_call, planning, cadenced, answering, all_said, nothing_yet, name_cm, part_word, end_word, is_said, begin_named, behind_name, first_word, name_call, function_word, name_word, named_word, te_word, is_on, on_word, off_word, is_answer, answer_word, one_of, bit_word, octet_word, at_bits, at_octets, at_number, number_word, read_word, record_of, one_octet}
 use Rattle.plans.proofs.Cadences.{both_periods}
 use Rattle.plans.proofs.Meant.{Meant, meant}
-use Rattle.plans.proofs.KeptLine.{Outside, within, Calling, Settled, calling_on, settled_within, Kept, Later, call_had, new_line, kept_wanted, kept_mode, kept_home, kept_function}
+use Rattle.plans.proofs.KeptLine.{Outside, within, Calling, Settled, calling_on, settled_within, Kept, Later, not_none, call_had, new_line, kept_wanted, kept_mode, kept_home, kept_function}
 
 -- a part of an end's line goes on with the line, and another line is none of an end
 is_within : (n : ℕ) → 2 ≤ n → n ≤ 4 → within n ≡ true
@@ -370,9 +370,8 @@ module _ (cm : List ℕ) (r : Reading) (kept : Kept cm r) (at-octets : at_octets
 
   kept_octet : (n : ℕ) → Later (cm ++ one_octet (when (eqb r.end 1) n no_octet)) (octet_word r n)
   kept_octet n =
-      let here = one_here cm r kept first_octet octets at-octets in
       let now = cm ++ one_octet (when (eqb r.end 1) n no_octet) in
-      either_way (Later now) (ltb 255 n) _ _ (λ _ right. absurd (⊎_elim (λ e. omega (arith, e, right)) (λ e. omega (arith, e, right)) here))
+      either_way (Later now) (ltb 255 n) _ _ (λ _ right. absurd (not_none right))
       (λ few _.
       let small : n < 256 = omega (arith, ltb-false 255 n few) in
       kept_going cm r kept now octets (not_inside cm r kept first_octet octets (lit≤ tt) (lit≤ tt) at-octets) (calling_octet n small (eqb r.end 1) refl))

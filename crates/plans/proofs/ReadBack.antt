@@ -1,7 +1,7 @@
 -- The plain form of a call is read as that call, with the same CM of a stranger, the same blocks and the same bits damaged, and so it is without its
 -- line for Te where Te is the default, or without those for a cadence and for the answer: in both the lines of the ends are read, then those that tell the call, then the blocks, then the damaged bits.
 -- Assumes nothing.
-use Rattle.std.proofs.Common.{◌≡◌, ℕ, zero, suc, ◌+◌, ◌<◌, true, false, eqb, List, [], ◌∷◌, ◌++◌, length, Ok, get_or, take, drop, replicate, sym, refl, ap, ◌∙◌, subst, ⊎_elim, append-nil, arith, lit<, eqb→eq, drop_of_length-le, drop-cons, le-ltb, lt-ltb, eq-eqb, ne_eqb}
+use Rattle.std.proofs.Common.{◌≡◌, ℕ, zero, suc, ◌+◌, ◌<◌, true, false, eqb, List, [], ◌∷◌, ◌++◌, length, None, Ok, get_or, take, drop, replicate, sym, refl, ap, ◌∙◌, subst, ⊎_elim, append-nil, arith, lit<, eqb→eq, drop_of_length-le, drop-cons, le-ltb, lt-ltb, eq-eqb, ne_eqb}
 use Rattle.laws.specs.Logic.{when, both, either}
 use Rattle.laws.specs.Tests.{all_below}
 use Rattle.laws.proofs.Logic.{clash}
@@ -183,7 +183,7 @@ module _ (plan : Plan) (good : Good plan) (cm : List ℕ) (given : Given plan cm
   unfolding is_said when
   others_said te on off answers = (lt-ltb 0 (set_at plan 2 home) (has_home plan 2 good.answerer).0, lt-ltb 0 plan.function called_some)
 
-  none_missing : (te on off answers : ℕ) → missing (told te on off answers) ≡ 0
+  none_missing : (te on off answers : ℕ) → missing (told te on off answers) ≡ None
   unfolding missing when
   none_missing te on off answers = simp (caller_said te on off answers, (others_said te on off answers).0, (others_said te on off answers).1)
 

@@ -1,6 +1,6 @@
 -- Runs: a piece of a text leads from one reading of it to another, whatever stands behind it.
 -- Assumes nothing.
-use Rattle.std.proofs.Common.{◌≡◌, ℕ, zero, suc, ◌+◌, ◌<◌, Bool, true, false, not, T, eqb, List, [], ◌∷◌, ◌++◌, length, take, set, replicate, sym, refl, ap, ◌∙◌, ap₂, append_assoc, append-nil, not-suc-le-zero, arith, length-append, take_at}
+use Rattle.std.proofs.Common.{◌≡◌, ℕ, zero, suc, ◌+◌, ◌<◌, Bool, true, false, not, T, eqb, None, List, [], ◌∷◌, ◌++◌, length, take, set, replicate, sym, refl, ap, ◌∙◌, ap₂, append_assoc, append-nil, not-suc-le-zero, arith, length-append, take_at}
 use borrow.Author.Tests.{not-true}
 use Rattle.laws.specs.Logic.{when, both, either}
 use Rattle.laws.specs.Tests.{every}
@@ -50,7 +50,7 @@ go_on {r''} {s''} {rest'} m n k sum first second = record {
 }
 
 -- one byte
-module _ (r r' : Reading) (s s' b : ℕ) (rest : List ℕ) (d d' : Found) (is_read : read_byte r s b rest ≡ r') (is-scan : scan_after s b ≡ s') (is_right : r'.what ≡ 0)
+module _ (r r' : Reading) (s s' b : ℕ) (rest : List ℕ) (d d' : Found) (is_read : read_byte r s b rest ≡ r') (is-scan : scan_after s b ≡ s') (is_right : r'.what ≡ None)
     (is-marked : marked_bit r s b rest d.damaged ≡ d'.damaged) (is-given : d.octets ++ one_octet (octet_at d.whose r s b rest) ≡ d'.octets) (is-whose : d.whose ≡ d'.whose)
   where
     one_byte : Goes r s d (b ∷ rest) 1 r' s' d' rest
@@ -111,7 +111,7 @@ in_word_lem b h =
     record { feed = second.0; hash = second.1; gap = first.0 }
 
 -- a word goes on
-module _ (r : Reading) (is_right : r.what ≡ 0) (d : Found) where
+module _ (r : Reading) (is_right : r.what ≡ None) (d : Found) where
   within_byte : (b : ℕ) (rest : List ℕ) → InWord b → Goes r in_word d (b ∷ rest) 1 r in_word d rest
   unfolding read_byte scan_after when both either
   within_byte b rest w = one_byte r r in_word in_word b rest d d (simp (w.feed, w.hash, w.gap)) (simp (w.feed, w.hash, w.gap)) is_right (simp (w.feed, w.hash, w.gap)) (simp (w.feed, w.hash, w.gap, append-nil)) refl
@@ -140,7 +140,7 @@ nothing r d = record { goes = λ rest stops. record { reads = λ at. ap (λ (pla
 
 -- a word
 pub word_run :
-    (r r' : Reading) (d d' : Found) (w : List ℕ) → 0 < length w → spelled w ≡ true → read_word r w ≡ r' → r'.what ≡ 0
+    (r r' : Reading) (d d' : Found) (w : List ℕ) → 0 < length w → spelled w ≡ true → read_word r w ≡ r' → r'.what ≡ None
     → when (at_bits r) (set d.damaged (bit_place r.end (number w)) 1) d.damaged ≡ d'.damaged
     → d.octets ++ one_octet (when (both (at_octets r) (eqb r.end d.whose)) (octet w) no_octet) ≡ d'.octets → d.whose ≡ d'.whose → Run r d w r' d'
 unfolding every read_byte scan_after when both either
@@ -157,7 +157,7 @@ word_run r r' d d' (b ∷ w) full h is_read is_right is-marked is-given is-whose
         (go_on (length w) 0 (length w + 0) refl (within r' is_right d' w rest here.1) (same_scan r' d' rest stops))
 
 -- a blank before a piece
-behind : {r r' : Reading} {d d' : Found} {text : List ℕ} (b : ℕ) → blank b ≡ true → eqb b line_feed ≡ false → eqb b comment ≡ false → r.what ≡ 0 → Run r d text r' d' → Run r d (b ∷ text) r' d'
+behind : {r r' : Reading} {d d' : Found} {text : List ℕ} (b : ℕ) → blank b ≡ true → eqb b line_feed ≡ false → eqb b comment ≡ false → r.what ≡ None → Run r d text r' d' → Run r d (b ∷ text) r' d'
 unfolding read_byte scan_after when both either
 behind {r} {r'} {d} {d'} {text} b gap feed hash is_right run = record {
   goes = λ rest stops.
@@ -167,17 +167,17 @@ behind {r} {r'} {d} {d'} {text} b gap feed hash is_right run = record {
 }
 
 -- blanks, so many, and a comma
-pub spaced : {r r' : Reading} {d d' : Found} {text : List ℕ} (n : ℕ) → r.what ≡ 0 → Run r d text r' d' → Run r d (replicate n 32 ++ text) r' d'
+pub spaced : {r r' : Reading} {d d' : Found} {text : List ℕ} (n : ℕ) → r.what ≡ None → Run r d text r' d' → Run r d (replicate n 32 ++ text) r' d'
 unfolding either
 spaced zero is_right run = run
 spaced (suc n) is_right run = behind 32 refl refl refl is_right (spaced n is_right run)
 
-pub comma : {r r' : Reading} {d d' : Found} {text : List ℕ} → r.what ≡ 0 → Run r d text r' d' → Run r d (44 ∷ text) r' d'
+pub comma : {r r' : Reading} {d d' : Found} {text : List ℕ} → r.what ≡ None → Run r d text r' d' → Run r d (44 ∷ text) r' d'
 unfolding either
 comma is_right run = behind 44 refl refl refl is_right run
 
 -- a line feed before a piece
-pub fed : {r r' r'' : Reading} {d d' : Found} {text : List ℕ} → finish_line r ≡ r' → r'.what ≡ 0 → Run r' d text r'' d' → Run r d (line_feed ∷ text) r'' d'
+pub fed : {r r' r'' : Reading} {d d' : Found} {text : List ℕ} → finish_line r ≡ r' → r'.what ≡ None → Run r' d text r'' d' → Run r d (line_feed ∷ text) r'' d'
 unfolding read_byte scan_after when both either
 fed {r} {r'} {r''} {d} {d'} {text} is-fed is_right run = record {
   goes = λ rest stops.

@@ -1,6 +1,6 @@
 -- Laws about texts, one byte at a time.
 -- Assumes nothing.
-use Rattle.std.proofs.Common.{◌≡◌, ℕ, zero, suc, ◌+◌, ◌<◌, ◌≤◌, Bool, true, false, cond, not, eqb, ltb, leb, min, ◌⊎◌, List, [], ◌∷◌, ◌++◌, length, get_or, drop, set, sym, refl, ap, ◌∙◌, inl, inr, le_of_suc-le-suc, not-suc-le-zero, add-one, arith, length-set, drop_of_length-le, drop-cons, le-ltb, lt-ltb, eq-eqb, ne_eqb, eqb-true, leb-true, leb-false}
+use Rattle.std.proofs.Common.{◌≡◌, ℕ, zero, suc, ◌+◌, ◌<◌, ◌≤◌, Bool, true, false, cond, not, eqb, ltb, leb, min, ◌⊎◌, Some, None, List, [], ◌∷◌, ◌++◌, length, get_or, drop, set, sym, refl, ap, ◌∙◌, inl, inr, le_of_suc-le-suc, not-suc-le-zero, add-one, arith, length-set, drop_of_length-le, drop-cons, le-ltb, lt-ltb, eq-eqb, ne_eqb, eqb-true, leb-true, leb-false}
 use Rattle.std.specs.List.{prefix_len}
 use Rattle.laws.specs.Logic.{when, either}
 use Rattle.plans.specs.declared.Reading.{Reading}
@@ -149,13 +149,13 @@ module _ (text : List ℕ) (i : ℕ) where
       byte_passes within passes = within_line within ∙ ap (λ (t : Bool). when t (read_word r (word_at text i)) r) passes
 
       module _ (next : Reading) (is-next : next ≡ read_byte r scan this rest) where
-        pub read_on : (after : ℕ) → after ≡ scan_after scan this → next.what ≡ 0 → read_from next after (i + 1) rest ≡ read_from r scan i (drop i text)
+        pub read_on : (after : ℕ) → after ≡ scan_after scan this → next.what ≡ None → read_from next after (i + 1) rest ≡ read_from r scan i (drop i text)
         unfolding read_from when
-        read_on after is-after right = simp (here, ← is-next, eq-eqb next.what 0 right, is-after)
+        read_on after is-after right = simp (here, ← is-next, right, is-after)
 
-        pub read_stop : (next.what ≡ 0 → ⊥) → read_from r scan i (drop i text) ≡ mistake next.what i
+        pub read_stop : (what : ℕ) → next.what ≡ Some what → read_from r scan i (drop i text) ≡ mistake what i
         unfolding read_from when
-        read_stop wrong = simp (here, ← is-next, ne_eqb next.what 0 wrong)
+        read_stop what wrong = simp (here, ← is-next, wrong)
 
         -- what is marked at no place is as it was
         pub marked_on :

@@ -78,12 +78,12 @@ abbrev pub no_line : ℕ → Line
 no_line end = line_of end 0 0
 
 abbrev pub reading : Plan → Line → ℕ → Reading
-reading plan line context = record { plan = plan; end = line.end; function = line.function; first = line.first; context = context; what = 0 }
+reading plan line context = record { plan = plan; end = line.end; function = line.function; first = line.first; context = context; what = None }
 
 -- a name is read
 module _ (r r' : Reading) (d : Found) (word : List ℕ) (kind number : ℕ) where
   pub name_run :
-      Known word kind number → at_number r ≡ false → at_bits r ≡ false → at_octets r ≡ false → name_word r (meaning kind number) ≡ r' → r'.what ≡ 0
+      Known word kind number → at_number r ≡ false → at_bits r ≡ false → at_octets r ≡ false → name_word r (meaning kind number) ≡ r' → r'.what ≡ None
       → Run r d word r' d
   unfolding read_word when both
   name_run names_it no_number no_bits no_octets is_read is_right =

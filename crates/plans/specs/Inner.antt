@@ -1,5 +1,5 @@
 -- How the code finds what a text lacks, and marks damaged bits.
-use Rattle.std.specs.Prelude.{ℕ, List, ◌∷◌, ◌++◌, ◌==◌}
+use Rattle.std.specs.Prelude.{ℕ, Option, is_some, List, ◌∷◌, ◌++◌}
 use Rattle.laws.specs.Logic.{when}
 use Rattle.plans.specs.declared.Plan.{Plan}
 use Rattle.plans.specs.Reading.{missing, bit_place, is_bit}
@@ -7,9 +7,9 @@ use Rattle.plans.specs.Plain.{head_text, te_text, cadence_text, answers_text}
 use Rattle.plans.specs.declared.Reading.{Reading}
 use Rattle.plans.specs.Text.{word, number}
 
--- the mistake of a text that was read to its end, or what it lacks, or 0
-unfoldable pub lacking : Reading → ℕ
-lacking r = when (r.what == 0) (missing r.plan) r.what
+-- the mistake of a text that was read to its end, or what it lacks, if either
+unfoldable pub lacking : Reading → Option ℕ
+lacking r = when (is_some r.what) r.what (missing r.plan)
 
 abbrev pub nowhere : ℕ
 nowhere = 18446744073709551615

@@ -147,9 +147,14 @@ with_cadence plan on off = record { sets = plan.sets; function = plan.function; 
 abbrev pub with_answer : Plan → ℕ → Plan
 with_answer plan answers = record { sets = plan.sets; function = plan.function; te = plan.te; on = plan.on; off = plan.off; answers = answers }
 
--- a mistake, or 0 for none
+-- a mistake
 abbrev pub mistaken : Reading → ℕ → Reading
-mistaken r what = record { plan = r.plan; end = r.end; function = r.function; first = r.first; context = r.context; what = what }
+mistaken r what = record { plan = r.plan; end = r.end; function = r.function; first = r.first; context = r.context; what = Some what }
+
+-- a mistake where there is one
+abbrev pub or_mistaken : Reading → Option ℕ → Reading → Reading
+or_mistaken r (Some what) right = mistaken r what
+or_mistaken r None right = right
 
 -- what may come next
 abbrev pub going : Reading → ℕ → Reading
@@ -217,7 +222,7 @@ planning r function te context = record {
   function = r.function;
   first = r.first;
   context = context;
-  what = when (lacks_call (with_call r.plan function te)) call_not_had r.what;
+  what = when (lacks_call (with_call r.plan function te)) (Some call_not_had) r.what;
 }
 
 -- a cadence, as far as it is said, and what may come next
@@ -398,11 +403,11 @@ record_of plan end = record {
   digital = set_at plan end 0 / 8 % 2;
 }
 
--- what is wrong with a record, or 0
-unfoldable pub record_mistake : Record → ℕ
+-- what is wrong with a record, where something is
+unfoldable pub record_mistake : Record → Option ℕ
 record_mistake own =
-    when (own.home == 0) no_function
-    (when ((in_use own own.home).available == 1) (when (bad_record own) pcm_alone 0) home_not_had)
+    when (own.home == 0) (Some no_function)
+    (when ((in_use own own.home).available == 1) (when (bad_record own) (Some pcm_alone) None) (Some home_not_had))
 
 -- the first function that an end's line names is the home function where no other is
 unfoldable pub with_home : Reading → Reading
@@ -411,9 +416,8 @@ with_home r = when (nat_lt 0 (set_at r.plan r.end home)) r (store r home r.first
 -- the end of an end's line
 unfoldable pub finish_end : Reading → Reading
 finish_end r =
-    when (record_mistake (record_of (with_home r).plan (with_home r).end) == 0)
+    or_mistaken (with_home r) (record_mistake (record_of (with_home r).plan (with_home r).end))
     (planning (with_home r) (with_home r).plan.function (with_home r).plan.te beginning)
-    (mistaken (with_home r) (record_mistake (record_of (with_home r).plan (with_home r).end)))
 
 -- a line may end where this may come next
 abbrev pub may_end : ℕ → Bool
@@ -449,15 +453,19 @@ no_plan = planned (replicate 16 0) 0 0
 
 -- nothing is read
 abbrev pub fresh : Reading
-fresh = record { plan = no_plan; end = 0; function = 0; first = 0; context = beginning; what = 0 }
+fresh = record { plan = no_plan; end = 0; function = 0; first = 0; context = beginning; what = None }
 
 -- a text that is no plan has this mistake at a place
 abbrev pub mistake : ℕ → ℕ → Result Plan Mistake
 mistake what at = Err (record { what = what; at = at })
 
--- what a text lacks that was read to its end, or 0
-unfoldable pub missing : Plan → ℕ
-missing plan = when (is_said plan 1) (when (is_said plan 2) (when (is_said plan after_call) 0 no_call) no_answerer) no_caller
+abbrev pub unless : Option ℕ → ℕ → Result Plan Mistake → Result Plan Mistake
+unless (Some what) at right = mistake what at
+unless None at right = right
+
+-- what a text lacks that was read to its end, where it lacks something
+unfoldable pub missing : Plan → Option ℕ
+missing plan = when (is_said plan 1) (when (is_said plan 2) (when (is_said plan after_call) None (Some no_call)) (Some no_answerer)) (Some no_caller)
 
 -- a plan that gives no Te has that of a start without a value, one that gives no cadence has that of the house, and
 -- without a time of the answer the answerer is on the line from the first on
@@ -473,20 +481,12 @@ with_default plan = record {
 
 -- a text that was read to its end: its last line, then what is missing
 unfoldable pub finished : Reading → ℕ → Result Plan Mistake
-finished r at =
-    when ((finish_line r).what == 0)
-    (when (missing (finish_line r).plan == 0)
-    (Ok (with_default (finish_line r).plan))
-    (mistake (missing (finish_line r).plan) at))
-    (mistake (finish_line r).what at)
+finished r at = unless (finish_line r).what at (unless (missing (finish_line r).plan) at (Ok (with_default (finish_line r).plan)))
 
 -- a text from a place on: up to the first mistake, or to its end
 unfoldable pub read_from : Reading → ℕ → ℕ → List ℕ → Result Plan Mistake
 read_from r scan at [] = finished r at
-read_from r scan at (b ∷ rest) =
-    when ((read_byte r scan b rest).what == 0)
-    (read_from (read_byte r scan b rest) (scan_after scan b) (at + 1) rest)
-    (mistake (read_byte r scan b rest).what at)
+read_from r scan at (b ∷ rest) = unless (read_byte r scan b rest).what at (read_from (read_byte r scan b rest) (scan_after scan b) (at + 1) rest)
 
 -- a text is a plan, or the first mistake in it with its place
 abbrev pub read_text : List ℕ → Result Plan Mistake

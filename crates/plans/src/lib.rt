@@ -16,7 +16,7 @@
 // Words stand apart by blanks, tabs and commas, in upper or lower case; # begins a comment. The lines may come in any order.
 #![tactic(auto)]
 
-ghost use Rattle.std.specs.Prelude.{not, ◌≡◌, ◌+◌, ◌-◌, ◌%◌, ◌<◌, ◌≤◌, List, [], ◌++◌, length, take, drop, set, ◌==◌, slice_index};
+ghost use Rattle.std.specs.Prelude.{not, Some, ◌≡◌, ◌+◌, ◌-◌, ◌%◌, ◌<◌, ◌≤◌, List, [], ◌++◌, length, take, drop, set, ◌==◌, slice_index};
 ghost use Rattle.std.specs.List.{prefix_len};
 ghost use Rattle.laws.specs.Logic.{when, both};
 ghost use Rattle.laws.specs.Front.{front};
@@ -210,7 +210,7 @@ pub struct Mistake {
 }
 
 // A text, read up to a byte: what is planned; of its line the end that it is about, the last function that it names, to which modes belong,
-// and the first; what may come next; and a mistake or 0.
+// and the first; what may come next; and a mistake, where one is made.
 #[derive(Clone, Copy)]
 struct Reading {
     plan: Plan,
@@ -218,7 +218,7 @@ struct Reading {
     function: u8,
     first: u8,
     context: u8,
-    what: u8,
+    what: Option<u8>,
 }
 
 // Where the byte behind a byte stands, outside comments.
@@ -350,11 +350,21 @@ fn set_at(plan: Plan, end: u8, k: u8) -> u16
     plan.sets[place(end, k)]
 }
 
-// What may come next, and a mistake or 0.
-fn going(r: Reading, context: u8, what: u8) -> Reading
-    ensures { result ≡ mistaken (going r context) what }
+// What may come next.
+fn going(r: Reading, context: u8) -> Reading
+    ensures { result ≡ going r context }
 {
-    Reading { context, what, ..r }
+    Reading { context, ..r }
+}
+
+// A mistake.
+fn mistaken(r: Reading, what: u8) -> Reading
+    ensures { result ≡ mistaken r what }
+{
+    Reading {
+        what: Some(what),
+        ..r
+    }
 }
 
 // The line's end with one of its sets anew; modes behind it belong to `function`, and `first` is the first function that the line names.
@@ -388,7 +398,7 @@ fn say(r: Reading, k: u8, n: u8, function: u8, first: u8) -> Reading
 {
     let set = set_at(r.plan, r.end, k);
     if items::in_set(set, Item(n)) {
-        return going(r, r.context, TWICE);
+        return mistaken(r, TWICE);
     }
     store(r, k, added(set, n), function, first)
 }
@@ -424,7 +434,7 @@ fn begin_named(r: Reading, name: u8, end: u8, context: u8) -> Reading
     ensures { result ≡ begin_named r name end context }
 {
     if is_said(r.plan, name) {
-        return going(r, r.context, TWICE);
+        return mistaken(r, TWICE);
     }
     Reading {
         end,
@@ -448,8 +458,8 @@ fn behind_name(name: u8) -> u8
 }
 
 // The mistake that the caller is known, and the function called, and the caller has not that function; or what it was.
-fn call_mistake(plan: Plan, what: u8) -> u8
-    ensures { result ≡ when (lacks_call plan) call_not_had what }
+fn call_mistake(plan: Plan, what: Option<u8>) -> Option<u8>
+    ensures { result ≡ when (lacks_call plan) (Some call_not_had) what }
 {
     if set_at(plan, steps::CALLER, HOME) == 0 {
         return what;
@@ -458,7 +468,7 @@ fn call_mistake(plan: Plan, what: u8) -> u8
         return what;
     }
     if set_at(plan, steps::CALLER, plan.function) % 2 == 0 {
-        return CALL_NOT_HAD;
+        return Some(CALL_NOT_HAD);
     }
     what
 }
@@ -515,12 +525,12 @@ fn part_word(r: Reading, part: u8) -> Reading
     ensures { result ≡ part_word r part }
 {
     if part != OCTETS_BEHIND {
-        return going(r, part, r.what);
+        return going(r, part);
     }
     if nothing_yet(r) {
         return planning(r, STRANGER, r.plan.te, FIRST_OCTET);
     }
-    going(r, r.context, SENDS_ALONE)
+    mistaken(r, SENDS_ALONE)
 }
 
 // A word that names something: what may come next and the kind of what it names decide.
@@ -533,7 +543,7 @@ fn name_word(r: Reading, m: Meaning) -> Reading
         FUNCTION_IN_END => say(r, n, 0, n, first_of(r.first, n)),
         MODE_IN_END | OTHER_MODE_IN_END => {
             if r.function == 0 {
-                return going(r, r.context, MODE_FIRST);
+                return mistaken(r, MODE_FIRST);
             }
             say(r, r.function, n, r.function, r.first)
         }
@@ -543,13 +553,13 @@ fn name_word(r: Reading, m: Meaning) -> Reading
         LINE_AT_BEGIN => begin_named(r, n, 0, behind_name(n)),
         FUNCTION_AFTER_HOME => {
             if 0 < set_at(r.plan, r.end, HOME) {
-                return going(r, r.context, TWICE);
+                return mistaken(r, TWICE);
             }
             store(r, HOME, n as u16, 0, r.first)
         }
         FUNCTION_AFTER_CALL => planning(r, n, r.plan.te, DONE),
         END_AFTER_DAMAGED => begin_named(r, AFTER_DAMAGED, n, FIRST_BIT),
-        _ => going(r, r.context, r.context),
+        _ => mistaken(r, r.context),
     }
 }
 
@@ -558,9 +568,9 @@ fn listed(r: Reading, last: u32, n: u32, context: u8) -> Reading
     ensures { result ≡ listed r last n context }
 {
     if last < n {
-        return going(r, r.context, r.context);
+        return mistaken(r, r.context);
     }
-    going(r, context, r.what)
+    going(r, context)
 }
 
 // Whether an on period may have so many sequences: with an off period that may be.
@@ -594,25 +604,25 @@ fn number_word(r: Reading, n: u32) -> Reading
             if steps::is_te(n) {
                 return planning(r, r.plan.function, n as u16, DONE);
             }
-            going(r, context, context)
+            mistaken(r, context)
         }
         AFTER_CADENCE => {
             if is_on(n) {
                 return cadenced(r, n as u8, r.plan.off, AFTER_ON);
             }
-            going(r, context, context)
+            mistaken(r, context)
         }
         AFTER_ON => {
             if is_off(r.plan.on, n) {
                 return cadenced(r, r.plan.on, n as u16, DONE);
             }
-            going(r, context, context)
+            mistaken(r, context)
         }
         AFTER_ANSWERS => {
             if is_answer(n) {
                 return answering(r, n as u16, DONE);
             }
-            going(r, context, context)
+            mistaken(r, context)
         }
         _ => listed(r, 8999, n, BITS),
     }
@@ -630,7 +640,7 @@ fn read_word(r: Reading, word: &[u8]) -> Reading
         OCTETS => listed(r, 255, octet(word), OCTETS),
         _ => {
             let Some(m) = names::named(word) else {
-                return going(r, context, context);
+                return mistaken(r, context);
             };
             name_word(r, m)
         }
@@ -681,22 +691,22 @@ fn with_home(r: Reading) -> Reading
     store(r, HOME, r.first as u16, 0, r.first)
 }
 
-// What is wrong with the record of an end, or 0.
-fn record_mistake(plan: Plan, end: u8) -> u8
+// What is wrong with the record of an end, where something is.
+fn record_mistake(plan: Plan, end: u8) -> Option<u8>
     ensures { result ≡ record_mistake (record_of plan end) }
 {
     let own = record_of(plan, end);
     if own.home == 0 {
-        return NO_FUNCTION;
+        return Some(NO_FUNCTION);
     }
     let home = records::in_use(own, own.home);
     if home.available != 1 {
-        return HOME_NOT_HAD;
+        return Some(HOME_NOT_HAD);
     }
     if records::bad(own) {
-        return PCM_ALONE;
+        return Some(PCM_ALONE);
     }
-    0
+    None
 }
 
 // The end of an end's line.
@@ -704,11 +714,10 @@ fn finish_end(r: Reading) -> Reading
     ensures { result ≡ finish_end r }
 {
     let line = with_home(r);
-    let wrong = record_mistake(line.plan, line.end);
-    if wrong != 0 {
-        return going(line, line.context, wrong);
+    match record_mistake(line.plan, line.end) {
+        Some(wrong) => mistaken(line, wrong),
+        None => planning(line, line.plan.function, line.plan.te, BEGIN),
     }
-    planning(line, line.plan.function, line.plan.te, BEGIN)
 }
 
 // The end of a line.
@@ -718,9 +727,9 @@ fn finish_line(r: Reading) -> Reading
     let context = r.context;
     match context {
         IN_END => finish_end(r),
-        BEGIN | DONE => going(r, BEGIN, r.what),
-        BITS | OCTETS => going(r, BEGIN, r.what),
-        _ => going(r, context, context),
+        BEGIN | DONE => going(r, BEGIN),
+        BITS | OCTETS => going(r, BEGIN),
+        _ => mistaken(r, context),
     }
 }
 
@@ -755,7 +764,7 @@ fn begin() -> Reading
         function: 0,
         first: 0,
         context: BEGIN,
-        what: 0,
+        what: None,
     }
 }
 
@@ -766,23 +775,23 @@ fn or_default(said: u16, default: u16) -> u16
     if said == 0 { default } else { said }
 }
 
-// The mistake of a text that was read to its end, or what it lacks, or 0.
-fn lacking(r: Reading) -> u8
+// The mistake of a text that was read to its end, or what it lacks, if either.
+fn lacking(r: Reading) -> Option<u8>
     ensures { result ≡ lacking r }
 {
-    if r.what != 0 {
+    if r.what.is_some() {
         return r.what;
     }
     if is_said(r.plan, steps::CALLER) {
         if is_said(r.plan, steps::ANSWERER) {
             if is_said(r.plan, AFTER_CALL) {
-                return 0;
+                return None;
             }
-            return NO_CALL;
+            return Some(NO_CALL);
         }
-        return NO_ANSWERER;
+        return Some(NO_ANSWERER);
     }
-    NO_CALLER
+    Some(NO_CALLER)
 }
 
 // A text that was read to its end: its last line, then what is missing.
@@ -790,8 +799,7 @@ fn finish(r: Reading, at: usize) -> Result<Plan, Mistake>
     ensures { result ≡ finished r at }
 {
     let last = finish_line(r);
-    let what = lacking(last);
-    if what != 0 {
+    if let Some(what) = lacking(last) {
         return Err(Mistake { what, at });
     }
     let said = last.plan;
@@ -813,11 +821,8 @@ pub fn read(text: &[u8]) -> Result<Plan, Mistake>
     let mut i: usize = 0;
     while i < text.len() {
         r = read_byte(r, scan, text, i);
-        if r.what != 0 {
-            return Err(Mistake {
-                what: r.what,
-                at: i,
-            });
+        if let Some(what) = r.what {
+            return Err(Mistake { what, at: i });
         }
         scan = scan_after(scan, text[i]);
         i += 1;

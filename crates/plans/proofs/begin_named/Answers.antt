@@ -5,7 +5,7 @@ use Rattle.plans.proofs.begin_named.Goals as goal
 
 pub returns-then-is_said : goal.returns-then-is_said
 unfolding when
-returns-then-is_said c = simp (c.going.ensures, c.if-is_said.true, ← c.is_said.ensures)
+returns-then-is_said c = simp (c.mistaken.ensures, c.if-is_said.true, ← c.is_said.ensures)
 
 pub returns : goal.returns
 unfolding when

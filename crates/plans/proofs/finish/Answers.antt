@@ -1,6 +1,6 @@
 -- `plans::finish` meets its contract: the last line is finished, then what is missing is asked for.
 -- Assumes nothing.
-use Rattle.std.proofs.Common.{ℕ, ◌<◌, eqb, sym, arith, lit<, rules}
+use Rattle.std.proofs.Common.{ℕ, ◌<◌, eqb, sym, ◌∙◌, arith, lit<, rules}
 use mir.Facts.{Fits-below}
 use Rattle.laws.specs.Logic.{when}
 use Rattle.laws.proofs.Logic.{either_way}
@@ -8,9 +8,8 @@ use Rattle.plans.specs.Reading.{default_on}
 use Rattle.plans.proofs.Cases.{finish_wrong, finish_right}
 use Rattle.plans.proofs.finish.Goals as goal
 
-pub returns-then-what-ne0 : goal.returns-then-what-ne0
-returns-then-what-ne0 c =
-    sym (finish_wrong c.args.r _ _ c.args.at c.finish_line-last.ensures c.lacking-what.ensures c.if-what-ne0.true)
+pub returns-in-Some : goal.returns-in-Some
+returns-in-Some c = sym (finish_wrong c.args.r _ c.args.at c.finish_line-last.ensures c.in-Some.what (sym c.lacking.ensures ∙ c.in-Some.is))
 
 -- an on period is one of 256, and so is the default
 few : (on : ℕ) → on < 256 → when (eqb on 0) default_on on < 256
@@ -22,4 +21,4 @@ overflow_cast-result c = Fits-below {n = 255} tt (omega (arith, c.or_default-2.e
 pub returns : goal.returns
 returns c =
     simp (c.or_default.ensures, c.or_default-2.ensures, c.or_default-3.ensures, c.or_default-4.ensures)
-    (sym (finish_right c.args.r _ _ c.args.at c.finish_line-last.ensures c.lacking-what.ensures c.if-what-ne0.false))
+    (sym (finish_right c.args.r _ c.args.at c.finish_line-last.ensures (sym c.lacking.ensures ∙ c.in_default.is)))

@@ -17,4 +17,4 @@ pub returns-in-9 : goal.returns-in-9
 returns-in-9 c = c.going-in-9.ensures ∙ sym (line_ends c.args.r (inr c.in-9.is))
 
 pub returns-in_default : goal.returns-in_default
-returns-in_default c = c.going-in_default.ensures ∙ sym (line_stands c.args.r (omega arith) (omega arith) (omega arith))
+returns-in_default c = c.mistaken.ensures ∙ sym (line_stands c.args.r (omega arith) (omega arith) (omega arith))

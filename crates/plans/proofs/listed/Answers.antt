@@ -6,8 +6,8 @@ use Rattle.plans.proofs.listed.Goals as goal
 
 pub returns-then-last-n : goal.returns-then-last-n
 unfolding when
-returns-then-last-n c = simp (c.going.ensures, lt-ltb _ _ c.if-last-n.true)
+returns-then-last-n c = simp (c.mistaken.ensures, lt-ltb _ _ c.if-last-n.true)
 
 pub returns : goal.returns
 unfolding when
-returns c = simp (c.going-2.ensures, le-ltb _ _ c.if-last-n.false)
+returns c = simp (c.going.ensures, le-ltb _ _ c.if-last-n.false)

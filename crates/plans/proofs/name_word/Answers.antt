@@ -5,10 +5,10 @@ use Rattle.plans.proofs.Cases.{function_in_end, mode_first_lem, mode_said, said,
 use Rattle.plans.proofs.name_word.Goals as goal
 
 pub returns-then-r-eq0 : goal.returns-then-r-eq0
-returns-then-r-eq0 c = c.going.ensures ∙ sym (mode_first_lem c.args.r c.args.m (search rules) c.in-1026.is c.if-r-eq0.true)
+returns-then-r-eq0 c = c.mistaken.ensures ∙ sym (mode_first_lem c.args.r c.args.m (search rules) c.in-1026.is c.if-r-eq0.true)
 
 pub returns-then-set_at-gt0 : goal.returns-then-set_at-gt0
-returns-then-set_at-gt0 c = c.going-then-set_at-gt0.ensures ∙ sym (home_twice c.args.r c.args.m (search rules) c.in-771.is _ c.set_at.ensures c.if-set_at-gt0.true)
+returns-then-set_at-gt0 c = c.mistaken-then-set_at-gt0.ensures ∙ sym (home_twice c.args.r c.args.m (search rules) c.in-771.is _ c.set_at.ensures c.if-set_at-gt0.true)
 
 pub returns-in-770 : goal.returns-in-770
 returns-in-770 c = c.say.ensures ∙ sym (function_in_end c.args.r c.args.m (search rules) c.in-770.is _ c.first_of.ensures)
@@ -38,4 +38,4 @@ pub returns-in-263 : goal.returns-in-263
 returns-in-263 c = c.begin_named-in-263.ensures ∙ sym (end_after_damaged c.args.r c.args.m (search rules) c.in-263.is)
 
 pub returns-in_default : goal.returns-in_default
-returns-in_default c = c.going-in_default.ensures ∙ sym (otherwise c.args.r c.args.m (search rules) (omega arith) (omega arith) (omega arith) (omega arith) (omega arith) (omega arith) (omega arith) (omega arith) (omega arith))
+returns-in_default c = c.mistaken-in_default.ensures ∙ sym (otherwise c.args.r c.args.m (search rules) (omega arith) (omega arith) (omega arith) (omega arith) (omega arith) (omega arith) (omega arith) (omega arith) (omega arith))

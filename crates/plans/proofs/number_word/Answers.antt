@@ -38,19 +38,19 @@ returns-then-is_answer c = simp (c.answering.ensures, c.in-25.is, sym c.is_answe
 
 pub returns-else-is_te : goal.returns-else-is_te
 unfolding number_word when
-returns-else-is_te c = simp (c.going.ensures, c.in-6.is, sym c.is_te.ensures ∙ c.if-is_te.false)
+returns-else-is_te c = simp (c.mistaken.ensures, c.in-6.is, sym c.is_te.ensures ∙ c.if-is_te.false)
 
 pub returns-else-is_on : goal.returns-else-is_on
 unfolding number_word when
-returns-else-is_on c = simp (c.going-in-23.ensures, c.in-23.is, sym c.is_on.ensures ∙ c.if-is_on.false)
+returns-else-is_on c = simp (c.mistaken-in-23.ensures, c.in-23.is, sym c.is_on.ensures ∙ c.if-is_on.false)
 
 pub returns-else-is_off : goal.returns-else-is_off
 unfolding number_word when
-returns-else-is_off c = simp (c.going-in-24.ensures, c.in-24.is, sym c.is_off.ensures ∙ c.if-is_off.false)
+returns-else-is_off c = simp (c.mistaken-in-24.ensures, c.in-24.is, sym c.is_off.ensures ∙ c.if-is_off.false)
 
 pub returns-else-is_answer : goal.returns-else-is_answer
 unfolding number_word when
-returns-else-is_answer c = simp (c.going-in-25.ensures, c.in-25.is, sym c.is_answer.ensures ∙ c.if-is_answer.false)
+returns-else-is_answer c = simp (c.mistaken-in-25.ensures, c.in-25.is, sym c.is_answer.ensures ∙ c.if-is_answer.false)
 
 pub returns-in_default : goal.returns-in_default
 unfolding number_word when

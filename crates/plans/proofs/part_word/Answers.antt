@@ -15,4 +15,4 @@ returns-then-nothing_yet c = simp (c.planning.ensures, eq-eqb _ _ c.if-part-ne-O
 
 pub returns : goal.returns
 unfolding part_word when
-returns c = simp (c.going-2.ensures, eq-eqb _ _ c.if-part-ne-OCTETS_BEHIND.false, ← c.nothing_yet.ensures, c.if-nothing_yet.false)
+returns c = simp (c.mistaken.ensures, eq-eqb _ _ c.if-part-ne-OCTETS_BEHIND.false, ← c.nothing_yet.ensures, c.if-nothing_yet.false)

@@ -9,16 +9,16 @@ use Rattle.plans.proofs.read.Goals as goal
 pub loop-i-init : goal.loop-i-init
 loop-i-init c = (ap (λ (r : Reading). read_from r between 0 c.args.text.now) c.begin-r.ensures, search rules)
 
-pub returns-then-r-ne0 : goal.returns-then-r-ne0
-returns-then-r-ne0 c =
-    sym (read_stop c.args.text.now c.loop-i.i c.loop-i-test.true c.loop-i.r c.loop-i.scan c.read_byte-r.result c.read_byte-r.ensures c.if-r-ne0.true)
+pub returns-in-Some : goal.returns-in-Some
+returns-in-Some c =
+    sym (read_stop c.args.text.now c.loop-i.i c.loop-i-test.true c.loop-i.r c.loop-i.scan c.read_byte-r.result c.read_byte-r.ensures c.in-Some.what c.in-Some.is)
     ∙ c.loop-i.invariant.0
 
 pub loop-i-preserved : goal.loop-i-preserved
 loop-i-preserved c =
     let text = c.args.text.now in
     let i = c.loop-i.i in
-    (read_on text i c.loop-i-test.true c.loop-i.r c.loop-i.scan c.read_byte-r.result c.read_byte-r.ensures c.scan_after-scan.result c.scan_after-scan.ensures c.if-r-ne0.false ∙ c.loop-i.invariant.0, search rules)
+    (read_on text i c.loop-i-test.true c.loop-i.r c.loop-i.scan c.read_byte-r.result c.read_byte-r.ensures c.scan_after-scan.result c.scan_after-scan.ensures c.in_default.is ∙ c.loop-i.invariant.0, search rules)
 
 pub returns : goal.returns
 returns c =

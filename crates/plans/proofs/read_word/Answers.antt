@@ -33,7 +33,7 @@ returns-in-21 c =
 pub returns-in_default-named : goal.returns-in_default-named
 returns-in_default-named c =
     let r = c.args.r in
-    c.going.ensures ∙ ap (named_word r) (sym c.in_default-named.is) ∙ sym (name_asked r c.args.word.now _ c.named.ensures (omega arith) (omega arith) (omega arith) (omega arith) (omega arith))
+    c.mistaken.ensures ∙ ap (named_word r) (sym c.in_default-named.is) ∙ sym (name_asked r c.args.word.now _ c.named.ensures (omega arith) (omega arith) (omega arith) (omega arith) (omega arith))
 
 pub returns-in-Some : goal.returns-in-Some
 returns-in-Some c =

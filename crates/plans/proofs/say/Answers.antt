@@ -6,7 +6,7 @@ use Rattle.plans.proofs.say.Goals as goal
 
 pub returns-then-in_set : goal.returns-then-in_set
 unfolding when say
-returns-then-in_set c = simp (c.going.ensures, c.if-in_set.true, ← c.in_set.ensures, ← c.set_at-set.ensures)
+returns-then-in_set c = simp (c.mistaken.ensures, c.if-in_set.true, ← c.in_set.ensures, ← c.set_at-set.ensures)
 
 pub returns : goal.returns
 unfolding when say
