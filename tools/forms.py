@@ -60,17 +60,36 @@ def shape(text):
     return re.sub(r"\s+", " ", re.sub(r"\b[a-z_]\w*\b", "x", text))
 
 
+def kinds(text):
+    """Runs of three constants or more of one type that count on by one."""
+    run, last = [], None
+    for n, line in enumerate(text.split("\n"), 1):
+        found = re.match(r"(?:pub )?const ([A-Z][A-Z0-9_]*): (u8|u16|u32) = (\d+);", line)
+        if not found:
+            continue
+        if last is None or last != (found[2], int(found[3]) - 1):
+            if len(run) > 2:
+                yield run
+            run = []
+        run.append((n, found[1]))
+        last = (found[2], int(found[3]))
+    if len(run) > 2:
+        yield run
+
+
 def places(path, text):
     for line, name, variants in enums(text):
         if any(v.startswith("Refused(Refusal)") for v in variants):
             yield 1, line, f"enum {name}: a refusal or an answer"
         elif len(variants) == 2 and any("(" in v for v in variants) and not all("(" in v for v in variants):
             yield 1, line, f"enum {name}: a value or none"
+    counted = set()
+    for run in kinds(text):
+        counted.update(n for n, _ in run)
+        yield 1, run[0][0], f"numbers for {len(run)} kinds: {run[0][1]} to {run[-1][1]}"
     for n, line in enumerate(text.split("\n"), 1):
-        if re.match(r"(pub )?const (NO_\w+|NOTHING\w*|NOWHERE|NONE): (u8|u16|u32|usize|i32) ", line):
+        if n not in counted and re.match(r"(pub )?const (NO_\w+|NOTHING\w*|NOWHERE|NONE): (u8|u16|u32|usize|i32) ", line):
             yield 1, n, "a number for none: " + line.strip()
-        elif re.match(rf"(pub )?const [A-Z][A-Z0-9_]*: u(8|32) = \d+;", line):
-            yield 1, n, "a constant, perhaps one of kinds: " + line.strip()
         if re.match(r"\s*(pub )?(whole|there|on|what): (bool|u8),$", line):
             yield 1, n, "a flag with a value beside it: " + line.strip()
         if re.match(r"\s*(while|loop)\b", line):
