@@ -5,4 +5,3 @@ pub mod Moves
 pub mod Left
 pub mod Placed
 pub mod Unique
-pub mod Within

@@ -1,6 +1,6 @@
 -- The test of a cadence, as facts about its numbers.
 -- Assumes nothing.
-use Prim.Native.Nat.{ℕ, ◌≤◌, ◌<◌, min}
+use Prim.Native.Nat.{ℕ, ◌≤◌, ◌<◌}
 use native.Mathlib.Omega.{arith}
 use mathlib.Core.Path.{◌≡◌, refl}
 use mathlib.Core.Bool.{Bool, true, false}
@@ -73,10 +73,6 @@ fits_by false false place sent is less counted begins = absurd (eqb-false sent 9
 pub stands_place : (place sent end : ℕ) → Stands place sent end → place_fits place sent end ≡ true
 unfolding both
 stands_place place sent end s = simp (lt-ltb place end s.within, fits_by (eqb sent 90) (ltb sent 90) place sent refl refl s.counted s.begins)
-
--- the least of two numbers
-pub min_is : (a b : ℕ) → min a b ≡ when (ltb b a) b a
-min_is a b = either_way (λ (n : ℕ). min a b ≡ n) (ltb b a) b a (λ less. omega (arith, ltb-true b a less)) (λ not. omega (arith, ltb-false b a not))
 
 -- no more bits come than are asked for
 pub due_most : (c : Cadence) (asked : ℕ) → due c asked ≤ asked

@@ -1,5 +1,5 @@
 // The cadence: CI on and off, given out bit by bit, and what is left of it once an answer is heard.
-#![tactic(auto)]
+#![tactic(auto, using(laws::proofs::Cases::cases), unfolding(laws::specs::Logic::when, laws::specs::Logic::both, laws::specs::Logic::either, crate::specs::Giving::cadence_fits, crate::specs::Giving::left))]
 
 ghost use Rattle.std.specs.Prelude.{◌≡◌, ◌+◌, ◌%◌, ◌<◌, ◌≤◌, ltb, length};
 ghost use Rattle.laws.specs.Logic.{when};

@@ -1,7 +1,7 @@
 // Steps: the session of an end, how it starts, what an event changes in it, and the bits that a caller gives out.
 //
 // One constant table, by state and event, is the rule. A step tests the session, the event and the clock, and looks up the row.
-#![tactic(auto)]
+#![tactic(auto, using(laws::proofs::Cases::cases), unfolding(laws::specs::Logic::when, laws::specs::Logic::both, laws::specs::Logic::either, crate::specs::Session::in_range, crate::specs::Stepping::elapsed, crate::specs::Stepping::timed, crate::specs::Stepping::stepped_in, crate::specs::Drawing::drawn))]
 
 ghost use Rattle.std.specs.Prelude.{◌≡◌};
 ghost use Rattle.laws.specs.Logic.{both};

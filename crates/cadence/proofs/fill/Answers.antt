@@ -1,10 +1,10 @@
 -- `cadence::fill` meets its contract. Invariant: so many bits stand at the front of what is lent, and the place is that of the next in its period.
 -- Assumes nothing.
-use native.Mathlib.Nat.{mod-lt, mod-add-mod, mod-eq_of_lt}
+use native.Mathlib.Nat.{mod-add-mod}
 use native.Mathlib.Omega.{arith}
 use Prim.Native.Nat.{ℕ, ◌+◌, ◌%◌, ◌<◌, ◌≤◌}
 use mathlib.Core.List.{List, [], ◌++◌}
-use mathlib.Core.Path.{◌≡◌, sym, ap, refl, ◌∙◌}
+use mathlib.Core.Path.{◌≡◌, sym, ap, ◌∙◌}
 use lib.ListN.{length, take, drop, drop_of_length-le}
 use Rattle.std.proofs.lemmas.List.{length-take-le, append-nil}
 use Rattle.laws.specs.Front.{front}
@@ -19,17 +19,6 @@ filled : (bits lent part : List ℕ) (n : ℕ) → length bits ≡ n → n ≤ l
 filled bits lent part n long within is =
     let none : drop (length bits) (take n lent) ≡ [] = drop_of_length-le (take n lent) (omega (arith, length-take-le n lent within, long)) in
     ap (λ (l : List ℕ). l ++ drop n lent) (is ∙ ap (bits ++◌) none ∙ append-nil bits) ∙ ap (λ (k : ℕ). bits ++ drop k lent) (sym long)
-
-pub loop-bit-init : goal.loop-bit-init
-loop-bit-init c =
-    let a = c.args in
-    let here : a.from + 0 ≡ a.from = omega arith in
-    (sym (ap (λ (p : ℕ). p % a.end) here ∙ mod-eq_of_lt c.requires.from_lt_end), refl)
-
-pub next_place-place-requires : goal.next_place-place-requires
-next_place-place-requires c =
-    let a = c.args in
-    omega (arith, c.loop-bit.invariant.0, mod-lt (a.from + c.loop-bit.bit-index) {m = a.end} (omega (arith, c.requires.from_lt_end)))
 
 pub loop-bit-preserved : goal.loop-bit-preserved
 loop-bit-preserved c =
