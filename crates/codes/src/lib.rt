@@ -25,7 +25,7 @@ use offers::Source;
 use refusals::Refusal;
 use steps::{Answer, Session};
 
-// A tag that is nowhere: no place is as high.
+// Numbers that C gets or passes (include/tailsprig.h). A tag that is nowhere: no place is as high.
 const NOWHERE: i32 = 64;
 
 // No choice is as high.
@@ -56,6 +56,7 @@ pub fn wrote_code(w: Result<usize, Refusal>) -> i32
 }
 
 // 1 for CI, 2 for a menu.
+#[tactic(auto, using(laws::proofs::Cases::cases), unfolding(laws::specs::Logic::when))]
 pub fn kind_of(kind: u8) -> Option<Kind>
     ensures { result ≡ kind_of kind }
 {
@@ -215,6 +216,7 @@ pub fn step_code(answer: Result<Answer, Refusal>) -> i32
 pub fn carried(value: i32) -> u8
     ensures { result ≡ carried_of value }
 {
+    // One test behind the other: of a signed number, the arms of a match were tried, and a proof has no facts of theirs to cite.
     if value == -11 {
         return steps::REFUSED_WITH_11;
     }
