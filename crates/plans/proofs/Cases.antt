@@ -1,13 +1,12 @@
 -- What a word does, the end of a line and the end of a text.
 -- Assumes nothing.
-use Rattle.std.proofs.Common.{◌≡◌, ℕ, ◌+◌, ◌*◌, ◌<◌, ◌≤◌, true, eqb, ◌⊎◌, List, Option, Some, None, is_some, Ok, sym, refl, ap, ◌∙◌, inl, inr, arith, le-ltb, lt-ltb, eq-eqb, ne_eqb, eqb-true}
+use Rattle.std.proofs.Common.{◌≡◌, ℕ, ◌+◌, ◌*◌, ◌<◌, ◌≤◌, true, eqb, ◌⊎◌, Option, Some, None, is_some, Ok, sym, refl, ap, ◌∙◌, inl, inr, arith, le-ltb, lt-ltb, eq-eqb, ne_eqb, eqb-true}
 use Rattle.laws.specs.Logic.{when, either}
 use Rattle.laws.proofs.Logic.{either_way}
 use Rattle.names.specs.declared.Meaning.{Meaning}
-use Rattle.names.specs.Names.{end, line, function, mode, other_mode, part, wanted, quality, named}
+use Rattle.names.specs.Names.{end, line, function, mode, other_mode, part, wanted, quality}
 use Rattle.plans.specs.declared.Reading.{Reading}
-use Rattle.plans.specs.Text.{number, octet}
-use Rattle.plans.specs.Reading.{beginning, in_end, after_home, after_wants, after_call, after_te, after_damaged, first_bit, bits, done, first_octet, octets, after_cadence, after_on, after_answers, mistaken, going, say, name_function, name_home, name_mode, part_word, end_word, is_said, begin_named, behind_name, first_word, name_call, function_word, name_word, named_word, number_word, octet_word, read_word, finish_line, mistake, unless, missing, with_default, finished, mode_first, twice, home, set_at, store, first_of}
+use Rattle.plans.specs.Reading.{beginning, in_end, after_home, after_wants, after_call, after_damaged, first_bit, bits, done, octets, mistaken, going, say, name_function, name_home, name_mode, part_word, end_word, is_said, begin_named, behind_name, first_word, name_call, function_word, name_word, finish_line, mistake, unless, missing, with_default, finished, mode_first, twice, home, set_at, store, first_of}
 use Rattle.plans.specs.Inner.{lacking}
 
 -- a word that names something: the kind of that decides too
@@ -122,31 +121,6 @@ module _ (r : Reading) where
   unfolding finish_line when either
   line_stands no_end no_more no-list =
       simp (ne_eqb r.context in_end no_end, ne_eqb r.context beginning (λ here. no_more (inl here)), ne_eqb r.context bits (λ here. no-list (inl here)), ne_eqb r.context octets (λ here. no-list (inr here)), ne_eqb r.context done (λ here. no_more (inr here)))
-
--- a number is asked for, or an octet, or a name
-module _ (r : Reading) (text : List ℕ) where
-  pub number_asked :
-      (n : ℕ) → n ≡ number text → ((r.context ≡ after_te) ⊎ (r.context ≡ after_cadence)) ⊎ ((r.context ≡ first_bit) ⊎ (r.context ≡ after_on)) ⊎ ((r.context ≡ bits) ⊎ (r.context ≡ after_answers))
-      → read_word r text ≡ number_word r n
-  unfolding read_word when either
-  number_asked n is_number (inl (inl here)) = simp (here, is_number)
-  number_asked n is_number (inl (inr here)) = simp (here, is_number)
-  number_asked n is_number (inr (inl (inl here))) = simp (here, is_number)
-  number_asked n is_number (inr (inl (inr here))) = simp (here, is_number)
-  number_asked n is_number (inr (inr (inl here))) = simp (here, is_number)
-  number_asked n is_number (inr (inr (inr here))) = simp (here, is_number)
-
-  pub octet_asked : (n : ℕ) → n ≡ octet text → (r.context ≡ first_octet) ⊎ (r.context ≡ octets) → read_word r text ≡ octet_word r n
-  unfolding read_word when either
-  octet_asked n is-octet (inl here) = simp (here, is-octet)
-  octet_asked n is-octet (inr here) = simp (here, is-octet)
-
-  pub name_asked :
-      (m : Option Meaning) → m ≡ named text → ((r.context ≡ after_te) ⊎ (r.context ≡ after_cadence) → ⊥) → ((r.context ≡ first_bit) ⊎ (r.context ≡ after_on) → ⊥)
-      → ((r.context ≡ bits) ⊎ (r.context ≡ after_answers) → ⊥) → (r.context ≡ first_octet → ⊥) → (r.context ≡ octets → ⊥) → read_word r text ≡ named_word r m
-  unfolding read_word when either
-  name_asked m is-meant none none-behind no_bits no_first no_octets =
-      simp (ne_eqb r.context after_te (λ here. none (inl here)), ne_eqb r.context after_cadence (λ here. none (inr here)), ne_eqb r.context after_on (λ here. none-behind (inr here)), ne_eqb r.context first_bit (λ here. none-behind (inl here)), ne_eqb r.context bits (λ here. no_bits (inl here)), ne_eqb r.context after_answers (λ here. no_bits (inr here)), ne_eqb r.context first_octet no_first, ne_eqb r.context octets no_octets, is-meant)
 
 -- the end of a text
 module _ (r last : Reading) (at : ℕ) (is_last : last ≡ finish_line r) where

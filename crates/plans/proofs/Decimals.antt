@@ -1,44 +1,44 @@
 -- A number in decimal digits is a word, and is read as that number.
 -- Assumes nothing.
-use Rattle.std.proofs.Common.{◌≡◌, ℕ, zero, suc, ◌+◌, ◌*◌, ◌/◌, ◌%◌, ◌^◌, ◌<◌, ◌≤◌, Bool, true, cond, not, ltb, List, [], ◌∷◌, ◌++◌, length, refl, ap, ◌∙◌, ap₂, not-suc-le-zero, arith, lit<, lit≤, length-append, ltb-true, le-ltb, lt-ltb}
+use Rattle.std.proofs.Common.{◌≡◌, ℕ, zero, suc, ◌+◌, ◌*◌, ◌/◌, ◌%◌, ◌^◌, ◌<◌, ◌≤◌, Bool, true, cond, not, ltb, Option, Some, List, [], ◌∷◌, ◌++◌, length, refl, ap, ◌∙◌, ap₂, not-suc-le-zero, arith, lit<, lit≤, length-append, ltb-true, le-ltb, lt-ltb}
 use native.Mathlib.Nat.{pow-le-pow_right}
 use Rattle.io.specs.Digits.{hex_digit_ascii, last_digits}
 use Rattle.laws.specs.Logic.{when, both, either}
 use Rattle.laws.specs.Tests.{every, all_below}
 use Rattle.laws.proofs.Logic.{either_way}
 use Rattle.laws.proofs.Computed.{below, every_joined}
-use Rattle.plans.specs.Text.{ends_word, with_digit, number_on, number}
+use Rattle.plans.specs.Text.{ends_word, with_digit, one_digit_more, number_on, number}
 use Rattle.plans.specs.Plain.{decimal}
 use Rattle.plans.proofs.Runs.{spelled, holds}
 
 -- one more digit is read last
-last_digit : (n : ℕ) (text : List ℕ) (b : ℕ) → number_on n (text ++ (b ∷ [])) ≡ with_digit (number_on n text) b
+last_digit : (n : Option ℕ) (text : List ℕ) (b : ℕ) → number_on n (text ++ (b ∷ [])) ≡ one_digit_more (number_on n text) b
 unfolding number_on
 last_digit n [] b = refl
-last_digit n (c ∷ text) b = last_digit (with_digit n c) text b
+last_digit n (c ∷ text) b = last_digit (one_digit_more n c) text b
 
 digit : (d : ℕ) → d < 10 → hex_digit_ascii d ≡ 48 + d
 digit d h = ap (λ (t : Bool). cond t (48 + d) (87 + d)) (lt-ltb d 10 h)
 
-digit_read : (n d : ℕ) → n < 10000 → d < 10 → with_digit n (48 + d) ≡ 10 * n + d
+digit_read : (n d : ℕ) → n < 10000 → d < 10 → with_digit n (48 + d) ≡ Some (10 * n + d)
 unfolding when
-digit_read n d small h = simp (le-ltb (48 + d) 48 (omega arith), le-ltb 57 (48 + d) (omega (arith, h)), le-ltb 9999 n (omega (arith, small))) (omega arith)
+digit_read n d small h = simp (le-ltb (48 + d) 48 (omega arith), le-ltb 57 (48 + d) (omega (arith, h)), le-ltb 9999 n (omega (arith, small))) (ap Some (omega arith))
 
 digit_spelled : (d : ℕ) → d < 10 → spelled (hex_digit_ascii d ∷ []) ≡ true
 unfolding every both either all_below
 digit_spelled d h = holds (spelled (hex_digit_ascii d ∷ [])) (below (λ (k : ℕ). spelled (hex_digit_ascii k ∷ [])) 10 tt d h)
 
-digits_read : (k n : ℕ) → k ≤ 5 → n < 10 ^ k → number (last_digits 10 k n) ≡ n
+digits_read : (k n : ℕ) → k ≤ 5 → n < 10 ^ k → number (last_digits 10 k n) ≡ Some n
 unfolding number_on
-digits_read zero n few small = omega (arith, small)
+digits_read zero n few small = ap Some (omega (arith, small))
 digits_read (suc k) n few small =
     let first : n / 10 < 10 ^ k = omega (arith, small) in
     let four : k ≤ 4 = omega (arith, few) in
     let most : 10 ^ k ≤ 10 ^ 4 = pow-le-pow_right (lit< tt) four in
-    last_digit 0 (last_digits 10 k (n / 10)) (hex_digit_ascii (n % 10))
-    ∙ ap₂ with_digit (digits_read k (n / 10) (omega (arith, few)) first) (digit (n % 10) (omega arith))
+    last_digit (Some 0) (last_digits 10 k (n / 10)) (hex_digit_ascii (n % 10))
+    ∙ ap₂ one_digit_more (digits_read k (n / 10) (omega (arith, few)) first) (digit (n % 10) (omega arith))
     ∙ digit_read (n / 10) (n % 10) (omega (arith, first, most)) (omega arith)
-    ∙ omega arith
+    ∙ ap Some (omega arith)
 
 digits_spelled : (k n : ℕ) → spelled (last_digits 10 k n) ≡ true
 unfolding every
@@ -67,7 +67,7 @@ digits_some : (k n : ℕ) → 0 < k → 0 < length (last_digits 10 k n)
 digits_some zero n h = absurd (not-suc-le-zero h)
 digits_some (suc k) n h = omega (arith, length-append (last_digits 10 k (n / 10)) (hex_digit_ascii (n % 10) ∷ []))
 
-pub decimal_read : (n : ℕ) → n < 100000 → number (decimal n) ≡ n
+pub decimal_read : (n : ℕ) → n < 100000 → number (decimal n) ≡ Some n
 decimal_read n small = let e = enough n small in digits_read (count n) n e.few e.hold
 
 pub decimal_spelled : (n : ℕ) → spelled (decimal n) ≡ true

@@ -11,8 +11,8 @@ use Rattle.cadence.specs.Cadence.{is_cadence}
 use Rattle.steps.specs.Session.{is_te}
 use Rattle.plans.specs.declared.Plan.{Plan}
 use Rattle.plans.specs.declared.Reading.{Reading}
-use Rattle.plans.specs.Text.{number, no_octet, octet}
-use Rattle.plans.specs.Reading.{beginning, in_end, after_home, after_wants, after_call, after_te, after_damaged, first_bit, bits, done, first_octet, octets, sends_alone, octets_behind, cadence_behind, after_cadence, after_on, answers_behind, after_answers, default_on, default_off, stranger, twice, with_call, mistaken, going, begin_line, home, set_at, say, lacks_call, planning, cadenced, answering, all_said, nothing_yet, name_cm, part_word, end_word, is_said, begin_named, behind_name, first_word, name_call, function_word, name_word, named_word, te_word, is_on, on_word, off_word, is_answer, answer_word, one_of, bit_word, octet_word, at_bits, at_octets, at_number, number_word, read_word, record_of, one_octet}
+use Rattle.plans.specs.Text.{number, octet}
+use Rattle.plans.specs.Reading.{beginning, in_end, after_home, after_wants, after_call, after_te, after_damaged, first_bit, bits, done, first_octet, octets, sends_alone, octets_behind, cadence_behind, after_cadence, after_on, answers_behind, after_answers, default_on, default_off, stranger, twice, with_call, mistaken, going, begin_line, home, set_at, say, lacks_call, planning, cadenced, answering, all_said, nothing_yet, name_cm, part_word, end_word, is_said, begin_named, behind_name, first_word, name_call, function_word, name_word, named_word, te_word, is_on, on_word, off_word, is_answer, answer_word, one_of, bit_word, octet_word, at_bits, at_octets, at_number, number_word, asked_number, read_word, record_of, one_octet}
 use Rattle.plans.proofs.Cadences.{both_periods}
 use Rattle.plans.proofs.Meant.{Meant, meant}
 use Rattle.plans.proofs.KeptLine.{Outside, within, Calling, Settled, calling_on, settled_within, Kept, Later, not_none, call_had, new_line, kept_wanted, kept_mode, kept_home, kept_function}
@@ -330,6 +330,10 @@ module _ (cm : List ℕ) (r : Reading) (kept : Kept cm r) where
       (λ no-on. either_way (Later cm) (eqb r.context after_answers) _ _ (λ t. kept_answer t n)
       (λ no_answer. kept_bit (simp (no-te, no-cadence, no-on, no_answer) at is_number) n))))
 
+  kept_asked_number : at_number r ≡ true → (n : Option ℕ) → Later cm (asked_number r n)
+  kept_asked_number is_number (Some n) = kept_number is_number n
+  kept_asked_number is_number None = slip r.context
+
   -- and no octet is
   number_alone : at_number r ≡ true → at_octets r ≡ false
   unfolding either
@@ -349,12 +353,11 @@ module _ (cm : List ℕ) (r : Reading) (kept : Kept cm r) where
 
 -- an octet: in the caller's line it is one of a stranger's CM
 module _ (cm : List ℕ) (r : Reading) (kept : Kept cm r) (at-octets : at_octets r ≡ true) where
-  calling_octet : (n : ℕ) → n < 256 → (t : Bool) → eqb r.end 1 ≡ t → Calling r.plan.sets r.plan.function r.end octets (cm ++ one_octet (when t n no_octet))
+  calling_octet : (n : ℕ) (t : Bool) → eqb r.end 1 ≡ t → Calling r.plan.sets r.plan.function r.end octets (cm ++ one_octet (when t (Some n) None))
   unfolding when both either
-  calling_octet n small true here =
+  calling_octet n true here =
       let is = kept.calling.its_own (eqb-true r.end 1 here) at-octets in
-      let one : one_octet n ≡ n ∷ [] = simp (lt-ltb n 256 small) in
-      let some : 0 < length (cm ++ one_octet n) = omega (arith, length-append cm (one_octet n), ap length one) in
+      let some : 0 < length (cm ++ (n ∷ [])) = omega (arith, length-append cm (n ∷ [])) in
       record {
         nothing_said = kept.calling.nothing_said;
         other = λ _ e. clash (sym e);
@@ -363,22 +366,18 @@ module _ (cm : List ℕ) (r : Reading) (kept : Kept cm r) (at-octets : at_octets
         some = λ _. inl some;
         none = λ no. absurd (no is);
       }
-  calling_octet n small false apart =
+  calling_octet n false apart =
       let no : r.end ≡ 1 → ⊥ = eqb-false r.end 1 apart in
       let stays = calling_on kept.calling (λ _. no) r.end octets (λ _ e. clash (sym e)) (λ e. absurd (no e)) (λ e. absurd (omega (arith, e))) in
       subst (Calling r.plan.sets r.plan.function r.end octets) (sym (append-nil cm)) stays
 
-  kept_octet : (n : ℕ) → Later (cm ++ one_octet (when (eqb r.end 1) n no_octet)) (octet_word r n)
-  kept_octet n =
-      let now = cm ++ one_octet (when (eqb r.end 1) n no_octet) in
-      either_way (Later now) (ltb 255 n) _ _ (λ _ right. absurd (not_none right))
-      (λ few _.
-      let small : n < 256 = omega (arith, ltb-false 255 n few) in
-      kept_going cm r kept now octets (not_inside cm r kept first_octet octets (lit≤ tt) (lit≤ tt) at-octets) (calling_octet n small (eqb r.end 1) refl))
+  kept_octet : (n : Option ℕ) → Later (cm ++ one_octet (when (eqb r.end 1) n None)) (octet_word r n)
+  kept_octet (Some n) _ = kept_going cm r kept _ octets (not_inside cm r kept first_octet octets (lit≤ tt) (lit≤ tt) at-octets) (calling_octet n (eqb r.end 1) refl)
+  kept_octet None right = absurd (not_none right)
 
 -- what is known of a CM behind a word
 abbrev pub cm_behind : List ℕ → Reading → List ℕ → List ℕ
-cm_behind cm r text = cm ++ one_octet (when (both (at_octets r) (eqb r.end 1)) (octet text) no_octet)
+cm_behind cm r text = cm ++ one_octet (when (both (at_octets r) (eqb r.end 1)) (octet text) None)
 
 module _ (cm : List ℕ) (r : Reading) (kept : Kept cm r) (text : List ℕ) where
   -- a word that is no octet
@@ -390,6 +389,6 @@ module _ (cm : List ℕ) (r : Reading) (kept : Kept cm r) (text : List ℕ) wher
   unfolding read_word both either
   kept_word =
       let P = Later (cm_behind cm r text) in
-      either_way P (at_number r) _ _ (λ t. same_cm _ (number_alone cm r kept t) (kept_number cm r kept t (number text)))
+      either_way P (at_number r) _ _ (λ t. same_cm _ (number_alone cm r kept t) (kept_asked_number cm r kept t (number text)))
       (λ _. either_way P (at_octets r) _ _ (λ t. rw t (kept_octet cm r kept t (octet text)))
       (λ t. same_cm _ t (kept_named cm r kept (named text) (meant text))))

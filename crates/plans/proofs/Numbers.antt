@@ -1,6 +1,7 @@
 -- Laws about the numbers of a plan: sets, and numbers in digits.
 -- Assumes nothing.
-use Rattle.std.proofs.Common.{◌≡◌, ℕ, ◌*◌, ◌%◌, ◌^◌, ◌<◌, ◌≤◌, true, eqb, ltb, leb, refl, arith, lit≤, eqb→eq, ltb-false, ltb-true, lt-ltb, leb-true}
+use Rattle.std.proofs.Common.{◌≡◌, ℕ, ◌*◌, ◌%◌, ◌^◌, ◌<◌, true, eqb, ltb, leb, Option, Some, None, List, length, get_or, refl, subst, arith, eqb→eq, ltb-false, ltb-true, lt-ltb, leb-true}
+use Rattle.std.specs.Bool.{⊤}
 use Rattle.laws.specs.Logic.{when, both}
 use Rattle.laws.specs.Tests.{all_below}
 use Rattle.laws.proofs.Logic.{either_way}
@@ -8,7 +9,7 @@ use Rattle.laws.proofs.Computed.{below}
 use Rattle.io.specs.Digits.{IsDigitCount}
 use Rattle.printing.specs.Page.{Page, typed, TypedDecimal}
 use Rattle.printing.proofs.Pages.{typed_decimal_unique}
-use Rattle.plans.specs.Text.{hex_value}
+use Rattle.plans.specs.Text.{hex_value, two_digits, octet}
 use Rattle.plans.specs.Plain.{decimal}
 
 -- the weight of a number below 16 fits a set
@@ -39,17 +40,30 @@ decimal_typed p after n small number =
 pub some : (n : ℕ) → (n ≡ 0 → ⊥) → ltb 0 n ≡ true
 some n not-0 = lt-ltb 0 n (omega (arith, not-0))
 
--- a hexadecimal digit counts for no more than none
-hex_within : (b : ℕ) → hex_value b ≤ 256
-unfolding hex_value
-hex_within b =
-    let P : ℕ → Type 0 = λ (n : ℕ). n ≤ 256 in
-    either_way P (ltb b 48) _ _ (λ _. lit≤ tt)
-    (λ _. either_way P (leb b 57) _ _ (λ t. omega (arith, leb-true b 57 t))
-    (λ _. either_way P (ltb b 65) _ _ (λ _. lit≤ tt)
-    (λ _. either_way P (leb b 70) _ _ (λ t. omega (arith, leb-true b 70 t))
-    (λ _. either_way P (ltb b 97) _ _ (λ _. lit≤ tt)
-    (λ _. either_way P (leb b 102) _ _ (λ t. omega (arith, leb-true b 102 t)) (λ _. lit≤ tt))))))
+-- a number below another, where there is one
+abbrev pub Below : ℕ → Option ℕ → Type 0
+Below most (Some n) = n < most
+Below most None = ⊤
 
-pub hex_low : (n b : ℕ) → n ≡ hex_value b → n ≤ 256
-hex_low n b is-value = rw is-value (hex_within b)
+hex_below : (b : ℕ) → Below 16 (hex_value b)
+unfolding hex_value
+hex_below b =
+    let P = Below 16 in
+    either_way P (ltb b 48) _ _ (λ _. tt)
+    (λ _. either_way P (leb b 57) _ _ (λ t. omega (arith, leb-true b 57 t))
+    (λ _. either_way P (ltb b 65) _ _ (λ _. tt)
+    (λ _. either_way P (leb b 70) _ _ (λ t. omega (arith, leb-true b 70 t))
+    (λ _. either_way P (ltb b 97) _ _ (λ _. tt)
+    (λ _. either_way P (leb b 102) _ _ (λ t. omega (arith, leb-true b 102 t)) (λ _. tt))))))
+
+pub hex_small : (b n : ℕ) → hex_value b ≡ Some n → n < 16
+hex_small b n is-value = subst (Below 16) is-value (hex_below b)
+
+two_below : (high low : Option ℕ) → Below 16 high → Below 16 low → Below 256 (two_digits high low)
+two_below (Some high) (Some low) few fewer = omega (arith, few, fewer)
+two_below (Some high) None few fewer = tt
+two_below None low few fewer = tt
+
+pub octet_below : (word : List ℕ) → Below 256 (octet word)
+unfolding octet
+octet_below word = either_way (Below 256) (eqb (length word) 2) _ _ (λ _. two_below _ _ (hex_below (get_or word 0 0)) (hex_below (get_or word 1 0))) (λ _. tt)

@@ -1,15 +1,15 @@
 -- The octets of a plain text, read one by one: those of blocks, sixteen in a line, and those of a CM, all in one.
 -- Assumes nothing.
-use Rattle.std.proofs.Common.{◌≡◌, ℕ, ◌+◌, ◌*◌, ◌/◌, ◌%◌, ◌<◌, Bool, true, false, not, T, eqb, ltb, List, [], ◌∷◌, ◌++◌, length, replicate, sym, refl, ap, ◌∙◌, subst, ap₂, append_assoc, append-nil, not-suc-le-zero, arith, lit<, ltb-true, le-ltb, lt-ltb, eqb-true}
+use Rattle.std.proofs.Common.{◌≡◌, ℕ, ◌+◌, ◌/◌, ◌%◌, ◌<◌, Bool, true, false, not, T, eqb, ltb, Option, Some, None, List, [], ◌∷◌, ◌++◌, length, replicate, sym, refl, ap, ◌∙◌, subst, ap₂, append_assoc, append-nil, not-suc-le-zero, arith, lit<, ltb-true, eqb-true}
 use Rattle.laws.specs.Logic.{when, both, either}
 use Rattle.laws.specs.Tests.{every, all_below}
-use Rattle.laws.proofs.Logic.{both_true}
+use Rattle.laws.proofs.Logic.{both_true, clash}
 use Rattle.laws.proofs.Computed.{below}
 use Rattle.names.specs.Bytes.{bytes}
 use Rattle.printing.specs.Page.{hex_digit, hex_octet}
 use Rattle.plans.specs.declared.Plan.{Plan}
 use Rattle.plans.specs.declared.Reading.{Reading}
-use Rattle.plans.specs.Text.{ends_word, word_length, no_octet, hex_value, octet}
+use Rattle.plans.specs.Text.{ends_word, word_length, hex_value, two_digits, octet}
 use Rattle.plans.specs.Reading.{first_octet, octets, is_said, read_word, at_bits, at_octets, at_number, one_octet, finish_line}
 use Rattle.plans.specs.Plain.{entry_text, octets_text}
 use Rattle.plans.specs.Good.{Octets}
@@ -19,39 +19,47 @@ use Rattle.plans.proofs.LineRuns.{blocks_known, line_begins}
 use Rattle.plans.proofs.ListRuns.{Ends, Lines, Ready, ready_on, entry_stops, entry_run}
 
 -- a digit ends no word, and has the value that it stands for
+abbrev is_value : Option ℕ → ℕ → Bool
+is_value (Some m) n = eqb m n
+is_value None n = false
+
+value_lem : (m : Option ℕ) (n : ℕ) → is_value m n ≡ true → m ≡ Some n
+value_lem (Some m) n is = ap Some (eqb-true m n is)
+value_lem None n is = clash (sym is)
+
 abbrev is_digit : ℕ → Bool
-is_digit n = both (eqb (hex_value (hex_digit n)) n) (not (ends_word (hex_digit n)))
+is_digit n = both (is_value (hex_value (hex_digit n)) n) (not (ends_word (hex_digit n)))
 
 sixteen : T (all_below is_digit 16)
 unfolding hex_value all_below when both either
 sixteen = tt
 
-a_digit : (n : ℕ) → n < 16 → (hex_value (hex_digit n) ≡ n) × (not (ends_word (hex_digit n)) ≡ true)
+a_digit : (n : ℕ) → n < 16 → (hex_value (hex_digit n) ≡ Some n) × (not (ends_word (hex_digit n)) ≡ true)
 a_digit n small =
-    let these = both_true (eqb (hex_value (hex_digit n)) n) (not (ends_word (hex_digit n))) (holds (is_digit n) (below is_digit 16 sixteen n small)) in
-    (eqb-true (hex_value (hex_digit n)) n these.0, these.1)
+    let these = both_true (is_value (hex_value (hex_digit n)) n) (not (ends_word (hex_digit n))) (holds (is_digit n) (below is_digit 16 sixteen n small)) in
+    (value_lem (hex_value (hex_digit n)) n these.0, these.1)
 
 -- two digits are a word, and are read as the octet that they stand for
 module _ (b : ℕ) (small : b < 256) where
-  high : (hex_value (hex_digit (b / 16)) ≡ b / 16) × (not (ends_word (hex_digit (b / 16))) ≡ true)
+  high : (hex_value (hex_digit (b / 16)) ≡ Some (b / 16)) × (not (ends_word (hex_digit (b / 16))) ≡ true)
   high = a_digit (b / 16) (omega (arith, small))
 
-  low : (hex_value (hex_digit (b % 16)) ≡ b % 16) × (not (ends_word (hex_digit (b % 16))) ≡ true)
+  low : (hex_value (hex_digit (b % 16)) ≡ Some (b % 16)) × (not (ends_word (hex_digit (b % 16))) ≡ true)
   low = a_digit (b % 16) (omega arith)
 
-  octet_read : octet (hex_octet b) ≡ b
+  octet_read : octet (hex_octet b) ≡ Some b
   unfolding octet when
-  octet_read = ap₂ (λ (h l : ℕ). 16 * h + l) high.0 low.0 ∙ omega arith
+  octet_read = ap₂ two_digits high.0 low.0 ∙ ap Some (omega arith)
 
   octet_spelled : spelled (hex_octet b) ≡ true
   unfolding every both
   octet_spelled = ap₂ (λ (h l : Bool). both h (both l true)) high.1 low.1
 
 -- an octet is found where it is asked for
-one_given : (t : Bool) (b : ℕ) → b < 256 → one_octet (when t b no_octet) ≡ when t (b ∷ []) []
+one_given : (t : Bool) (b : ℕ) → one_octet (when t (Some b) None) ≡ when t (b ∷ []) []
 unfolding when
-one_given true b small = simp (lt-ltb b 256 small)
-one_given false b small = refl
+one_given true b = refl
+one_given false b = refl
 
 none_more : (t : Bool) (so_far : List ℕ) → so_far ++ when t [] [] ≡ so_far
 unfolding when
@@ -98,10 +106,10 @@ module _ (plan : Plan) (end : ℕ) where
       let is_read = octet_read b small in
       spaced 1 refl
       (word_run (within context) (within octets) d (with_octets end (b ∷ []) d) (hex_octet b) (lit< tt) (octet_spelled b small)
-      (simp (no_number, at-octets, is_read, le-ltb 255 b (omega (arith, small))))
+      (simp (no_number, at-octets, is_read))
       refl
       (simp no_bits)
-      (simp (at-octets, is_read) (ap (λ (one : List ℕ). d.octets ++ one) (one_given (eqb end d.whose) b small)))
+      (simp (at-octets, is_read) (ap (λ (one : List ℕ). d.octets ++ one) (one_given (eqb end d.whose) b)))
       refl)
 
   -- octets in lines of sixteen

@@ -1,13 +1,13 @@
 -- Runs: a piece of a text leads from one reading of it to another, whatever stands behind it.
 -- Assumes nothing.
-use Rattle.std.proofs.Common.{◌≡◌, ℕ, zero, suc, ◌+◌, ◌<◌, Bool, true, false, not, T, eqb, None, List, [], ◌∷◌, ◌++◌, length, take, set, replicate, sym, refl, ap, ◌∙◌, ap₂, append_assoc, append-nil, not-suc-le-zero, arith, length-append, take_at}
+use Rattle.std.proofs.Common.{◌≡◌, ℕ, zero, suc, ◌+◌, ◌<◌, Bool, true, false, not, T, eqb, None, List, [], ◌∷◌, ◌++◌, length, take, replicate, sym, refl, ap, ◌∙◌, ap₂, append_assoc, append-nil, not-suc-le-zero, arith, length-append, take_at}
 use borrow.Author.Tests.{not-true}
 use Rattle.laws.specs.Logic.{when, both, either}
 use Rattle.laws.specs.Tests.{every}
 use Rattle.laws.proofs.Logic.{both_true, either_false}
 use Rattle.plans.specs.declared.Reading.{Reading}
-use Rattle.plans.specs.Text.{blank, line_feed, comment, ends_word, word_length, word, number, no_octet, octet}
-use Rattle.plans.specs.Reading.{finish_line, read_word, between, in_word, scan_after, read_byte, finished, read_from, at_bits, bit_place, marked_bit, marked_from, at_octets, octet_at, one_octet, octets_from}
+use Rattle.plans.specs.Text.{blank, line_feed, comment, ends_word, word_length, word, number, octet}
+use Rattle.plans.specs.Reading.{finish_line, read_word, between, in_word, scan_after, read_byte, finished, read_from, at_bits, mark_at, marked_bit, marked_from, at_octets, octet_at, one_octet, octets_from}
 
 -- a text that begins with the end of a word, or is empty
 abbrev pub Stops : List ℕ → Type 0
@@ -141,8 +141,8 @@ nothing r d = record { goes = λ rest stops. record { reads = λ at. ap (λ (pla
 -- a word
 pub word_run :
     (r r' : Reading) (d d' : Found) (w : List ℕ) → 0 < length w → spelled w ≡ true → read_word r w ≡ r' → r'.what ≡ None
-    → when (at_bits r) (set d.damaged (bit_place r.end (number w)) 1) d.damaged ≡ d'.damaged
-    → d.octets ++ one_octet (when (both (at_octets r) (eqb r.end d.whose)) (octet w) no_octet) ≡ d'.octets → d.whose ≡ d'.whose → Run r d w r' d'
+    → when (at_bits r) (mark_at r.end (number w) d.damaged) d.damaged ≡ d'.damaged
+    → d.octets ++ one_octet (when (both (at_octets r) (eqb r.end d.whose)) (octet w) None) ≡ d'.octets → d.whose ≡ d'.whose → Run r d w r' d'
 unfolding every read_byte scan_after when both either
 word_run r r' d d' [] full h is_read is_right is-marked is-given is-whose = absurd (not-suc-le-zero full)
 word_run r r' d d' (b ∷ w) full h is_read is_right is-marked is-given is-whose = record { goes = go }

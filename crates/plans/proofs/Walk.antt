@@ -1,23 +1,11 @@
 -- Laws about texts, one byte at a time.
 -- Assumes nothing.
-use Rattle.std.proofs.Common.{◌≡◌, ℕ, zero, suc, ◌+◌, ◌<◌, ◌≤◌, Bool, true, false, cond, not, eqb, ltb, leb, min, ◌⊎◌, Some, None, List, [], ◌∷◌, ◌++◌, length, get_or, drop, set, sym, refl, ap, ◌∙◌, inl, inr, le_of_suc-le-suc, not-suc-le-zero, add-one, arith, length-set, drop_of_length-le, drop-cons, le-ltb, lt-ltb, eq-eqb, ne_eqb, eqb-true, leb-true, leb-false}
+use Rattle.std.proofs.Common.{◌≡◌, ℕ, suc, ◌+◌, ◌<◌, ◌≤◌, Bool, true, false, cond, not, eqb, leb, min, ◌⊎◌, Some, None, List, [], ◌∷◌, ◌++◌, length, Option, Some, None, get_or, drop, sym, refl, ap, ◌∙◌, inl, inr, add-one, arith, drop_of_length-le, drop-cons, eq-eqb, ne_eqb, eqb-true, leb-true, leb-false}
 use Rattle.std.specs.List.{prefix_len}
 use Rattle.laws.specs.Logic.{when, either}
 use Rattle.plans.specs.declared.Reading.{Reading}
-use Rattle.plans.specs.Text.{blank, ends_word, word_length, word, no_number, with_digit, number_on, line_feed, comment, word_at, no_octet}
-use Rattle.plans.specs.Reading.{read_word, finish_line, between, in_word, in_comment, scan_after, begins_word, read_byte, mistake, finished, read_from, is_bit, marked_bit, marked_from, octet_at, one_octet, octets_from}
-use Rattle.plans.specs.Inner.{nowhere, bit_at}
-
--- nothing is written past the end
-pub set_past : (list : List ℕ) (at b : ℕ) → length list ≤ at → set list at b ≡ list
-set_past [] at b past = refl
-set_past (x ∷ list) zero b past = absurd (not-suc-le-zero past)
-set_past (x ∷ list) (suc at) b past = ap (λ (rest : List ℕ). x ∷ rest) (set_past list at b (le_of_suc-le-suc past))
-
-set_where : (is_there : Bool) (list : List ℕ) (at : ℕ) → length list ≤ nowhere → set list (when is_there at nowhere) 1 ≡ when is_there (set list at 1) list
-unfolding when
-set_where true list at fits = refl
-set_where false list at fits = set_past list nowhere 1 fits
+use Rattle.plans.specs.Text.{blank, ends_word, word_length, word, with_digit, number_on, line_feed, comment, word_at}
+use Rattle.plans.specs.Reading.{read_word, finish_line, between, in_word, in_comment, scan_after, begins_word, read_byte, mistake, finished, read_from, marked_bit, marked_from, octet_at, one_octet, octets_from}
 
 abbrev behind : Bool → Bool → Bool → ℕ
 behind feed mark white = when feed between (when mark in_comment (when white between in_word))
@@ -35,15 +23,6 @@ ends_lem false false false = refl
 pub feeds_no_word : (scan b : ℕ) → eqb b line_feed ≡ true → begins_word scan b ≡ false
 unfolding when either
 feeds_no_word scan b feed = rw (eqb-true b line_feed feed)
-
--- an octet stands at a place, or none does
-pub one_octet_lem : (n : ℕ) (rest : List ℕ) → n < no_octet → one_octet n ++ rest ≡ n ∷ rest
-unfolding when
-one_octet_lem n rest small = simp (lt-ltb n no_octet small)
-
-pub none_octet : (n : ℕ) (rest : List ℕ) → no_octet ≤ n → one_octet n ++ rest ≡ rest
-unfolding when
-none_octet n rest large = simp (le-ltb n no_octet large)
 
 -- where the byte behind a byte stands, outside comments
 module _ (b : ℕ) where
@@ -96,27 +75,19 @@ drop_within text at from is = go (leb at (length text)) refl
         drop_of_length-le text (omega (arith, is, over)) ∙ sym (drop_of_length-le text (omega (arith, over)))
 
 -- what is no number stays none
-none_on : (word : List ℕ) → number_on no_number word ≡ no_number
-unfolding number_on when
+pub none_on : (word : List ℕ) → number_on None word ≡ None
+unfolding number_on
 none_on [] = refl
-none_on (b ∷ rest) = ap (λ (n : ℕ). number_on n rest) (whichever (ltb b 48) (ltb 57 b)) ∙ none_on rest
-  where
-    whichever : (low high : Bool) → when low no_number (when high no_number no_number) ≡ no_number
-    whichever true high = refl
-    whichever false true = refl
-    whichever false false = refl
+none_on (b ∷ rest) = none_on rest
 
 module _ (text : List ℕ) (i : ℕ) where
   module _ (more : i < length text) where
     here : drop i text ≡ get_or text i 0 ∷ drop (i + 1) text
     here = drop-cons text i 0 more ∙ ap (λ (next : ℕ). get_or text i 0 ∷ drop next text) (sym (add-one i))
 
-    pub number_on_lem : (n : ℕ) → number_on n (drop i text) ≡ number_on (with_digit n (get_or text i 0)) (drop (i + 1) text)
+    pub number_on_lem : (n : ℕ) → number_on (Some n) (drop i text) ≡ number_on (with_digit n (get_or text i 0)) (drop (i + 1) text)
     unfolding number_on
-    number_on_lem n = ap (number_on n) here
-
-    pub no_digit : (n : ℕ) → with_digit n (get_or text i 0) ≡ no_number → number_on n (drop i text) ≡ no_number
-    no_digit n none = number_on_lem n ∙ ap (λ (m : ℕ). number_on m (drop (i + 1) text)) none ∙ none_on (drop (i + 1) text)
+    number_on_lem n = ap (number_on (Some n)) here
 
     abbrev this : ℕ
     this = get_or text i 0
@@ -124,10 +95,9 @@ module _ (text : List ℕ) (i : ℕ) where
     abbrev rest : List ℕ
     rest = drop (i + 1) text
 
-    -- what a word is read as where it is an entry of a list
-    pub entry_here : (value : List ℕ → ℕ) (none : ℕ) (is-entry : Bool) → is-entry ≡ true → when is-entry (value (word (this ∷ rest))) none ≡ value (word_at text i)
-    unfolding when
-    entry_here value none is-entry is = simp is (ap (λ (front : List ℕ). value (word front)) (sym here))
+    -- what stands at a place is read as its word
+    pub entry_here : {A : Type 0} (value : List ℕ → A) → value (word_at text i) ≡ value (word (this ∷ rest))
+    entry_here value = ap (λ (front : List ℕ). value (word front)) here
 
     module _ (r : Reading) (scan : ℕ) where
       pub byte_ends : this ≡ line_feed → read_byte r scan this rest ≡ finish_line r
@@ -157,17 +127,13 @@ module _ (text : List ℕ) (i : ℕ) where
         unfolding read_from when
         read_stop what wrong = simp (here, ← is-next, wrong)
 
-        -- what is marked at no place is as it was
         pub marked_on :
-            (after at : ℕ) (damaged now : List ℕ) → after ≡ scan_after scan this → at ≡ bit_at r scan this rest → now ≡ set damaged at 1 → length damaged ≤ nowhere
-            → (marked_from next after rest now ≡ marked_from r scan (drop i text) damaged) × (length now ≡ length damaged)
-        unfolding marked_from bit_at
-        marked_on after at damaged now is-after is_at is-now fits =
-            let is-marked : now ≡ marked_bit r scan this rest damaged = is-now ∙ ap (λ (place : ℕ). set damaged place 1) is_at ∙ set_where (is_bit r scan this) damaged _ fits in
-            let is_read = ap (λ (x : Reading). marked_from x (scan_after scan this) rest (marked_bit r scan this rest damaged)) is-next in
-            (simp (is-after, is-marked) (is_read ∙ ap (λ (list : List ℕ). marked_from r scan list damaged) (sym here)), ap length is-now ∙ length-set damaged at 1)
+            (after : ℕ) (damaged now : List ℕ) → after ≡ scan_after scan this → now ≡ marked_bit r scan this rest damaged
+            → marked_from next after rest now ≡ marked_from r scan (drop i text) damaged
+        unfolding marked_from
+        marked_on after damaged now is-after is-now = simp (here, is-after, is-now) (ap (λ (x : Reading). marked_from x (scan_after scan this) rest (marked_bit r scan this rest damaged)) is-next)
 
-        pub octets_on : (end after n : ℕ) → after ≡ scan_after scan this → n ≡ octet_at end r scan this rest → octets_from end r scan (drop i text) ≡ one_octet n ++ octets_from end next after rest
+        pub octets_on : (end after : ℕ) (n : Option ℕ) → after ≡ scan_after scan this → n ≡ octet_at end r scan this rest → octets_from end r scan (drop i text) ≡ one_octet n ++ octets_from end next after rest
         unfolding octets_from
         octets_on end after n is-after is-n =
             let is_read = ap (λ (x : Reading). one_octet (octet_at end r scan this rest) ++ octets_from end x (scan_after scan this) rest) (sym is-next) in
@@ -177,7 +143,7 @@ module _ (text : List ℕ) (i : ℕ) where
     nothing : drop i text ≡ []
     nothing = drop_of_length-le text over
 
-    pub number_past : (n : ℕ) → number_on n (drop i text) ≡ n
+    pub number_past : (n : Option ℕ) → number_on n (drop i text) ≡ n
     unfolding number_on
     number_past n = simp nothing
 

@@ -12,7 +12,7 @@ use Rattle.steps.specs.Session.{between as in_range, is_te, default_te}
 use Rattle.plans.specs.declared.Plan.{Plan}
 use Rattle.plans.specs.declared.Mistake.{Mistake}
 use Rattle.plans.specs.declared.Reading.{Reading}
-use Rattle.plans.specs.Text.{blank, ends_word, line_feed, comment, word, number, no_octet, octet}
+use Rattle.plans.specs.Text.{blank, ends_word, line_feed, comment, word, number, octet}
 
 -- what may come next: a line; in an end's line; behind `home`, `wants`, `call`, `Te`, `damaged`; the first bit, further bits; the line's end.
 -- What does not come is the mistake of that number
@@ -352,8 +352,10 @@ listed r last n context = when (nat_lt last n) (mistaken r r.context) (going r c
 abbrev pub bit_word : Reading → ℕ → Reading
 bit_word r time = listed r 8999 time bits
 
-abbrev pub octet_word : Reading → ℕ → Reading
-octet_word r n = listed r 255 n octets
+-- an octet, or a word that is none
+abbrev pub octet_word : Reading → Option ℕ → Reading
+octet_word r (Some n) = going r octets
+octet_word r None = mistaken r r.context
 
 -- the first of a list may come next, or one behind it
 abbrev pub one_of : ℕ → ℕ → ℕ → Bool
@@ -377,6 +379,11 @@ number_word r n =
     (when (r.context == after_answers) (answer_word r n)
     (bit_word r n))))
 
+-- and a word that is none is a mistake
+abbrev pub asked_number : Reading → Option ℕ → Reading
+asked_number r (Some n) = number_word r n
+asked_number r None = mistaken r r.context
+
 -- and one that names nothing is a mistake
 abbrev pub named_word : Reading → Option Meaning → Reading
 named_word r (Some m) = name_word r m
@@ -384,7 +391,7 @@ named_word r None = mistaken r r.context
 
 unfoldable pub read_word : Reading → List ℕ → Reading
 read_word r text =
-    when (at_number r) (number_word r (number text))
+    when (at_number r) (asked_number r (number text))
     (when (at_octets r) (octet_word r (octet text))
     (named_word r (named text)))
 
@@ -501,8 +508,12 @@ abbrev pub is_bit : Reading → ℕ → ℕ → Bool
 is_bit r scan b = both (begins_word scan b) (at_bits r)
 
 -- a bit that a text says is damaged is marked where there is a place for it
+abbrev pub mark_at : ℕ → Option ℕ → List ℕ → List ℕ
+mark_at end (Some time) damaged = slice_set damaged (bit_place end time) 1
+mark_at end None damaged = damaged
+
 abbrev pub marked_bit : Reading → ℕ → ℕ → List ℕ → List ℕ → List ℕ
-marked_bit r scan b rest damaged = when (is_bit r scan b) (slice_set damaged (bit_place r.end (number (word (b ∷ rest)))) 1) damaged
+marked_bit r scan b rest damaged = when (is_bit r scan b) (mark_at r.end (number (word (b ∷ rest))) damaged) damaged
 
 unfoldable pub marked_from : Reading → ℕ → List ℕ → List ℕ → List ℕ
 marked_from r scan [] damaged = damaged
@@ -517,12 +528,13 @@ abbrev pub is_octet : ℕ → Reading → ℕ → ℕ → Bool
 is_octet end r scan b = both (both (begins_word scan b) (at_octets r)) (r.end == end)
 
 -- which it is, or none
-abbrev pub octet_at : ℕ → Reading → ℕ → ℕ → List ℕ → ℕ
-octet_at end r scan b rest = when (is_octet end r scan b) (octet (word (b ∷ rest))) no_octet
+abbrev pub octet_at : ℕ → Reading → ℕ → ℕ → List ℕ → Option ℕ
+octet_at end r scan b rest = when (is_octet end r scan b) (octet (word (b ∷ rest))) None
 
 -- a list of one octet, and an empty list where there is none
-abbrev pub one_octet : ℕ → List ℕ
-one_octet n = when (nat_lt n no_octet) (n ∷ []) []
+abbrev pub one_octet : Option ℕ → List ℕ
+one_octet (Some n) = n ∷ []
+one_octet None = []
 
 unfoldable pub octets_from : ℕ → Reading → ℕ → List ℕ → List ℕ
 octets_from end r scan [] = []

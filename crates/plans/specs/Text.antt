@@ -1,5 +1,5 @@
 -- The words, numbers and lines of a text.
-use Rattle.std.specs.Prelude.{ℕ, suc, ◌+◌, ◌-◌, ◌*◌, Bool, List, [], ◌∷◌, length, take, drop, ◌==◌, nat_le, nat_lt, slice_index, count_by}
+use Rattle.std.specs.Prelude.{ℕ, suc, ◌+◌, ◌-◌, ◌*◌, Bool, Option, Some, None, List, [], ◌∷◌, length, take, drop, ◌==◌, nat_le, nat_lt, slice_index, count_by}
 use Rattle.laws.specs.Logic.{when, either}
 
 -- a space, a tab, a carriage return, a comma
@@ -25,37 +25,39 @@ word_length (b ∷ rest) = when (ends_word b) 0 (suc (word_length rest))
 abbrev pub word : List ℕ → List ℕ
 word text = take (word_length text) text
 
--- a decimal number below 100,000, and 100,000 for every other word
-abbrev pub no_number : ℕ
-no_number = 100000
+-- a decimal number below 100,000, and none for every other word
+abbrev pub with_digit : ℕ → ℕ → Option ℕ
+with_digit n b = when (nat_lt b 48) None (when (nat_lt 57 b) None (when (nat_lt 9999 n) None (Some (10 * n + (b - 48)))))
 
-abbrev pub with_digit : ℕ → ℕ → ℕ
-with_digit n b = when (nat_lt b 48) no_number (when (nat_lt 57 b) no_number (when (nat_lt 9999 n) no_number (10 * n + (b - 48))))
+abbrev pub one_digit_more : Option ℕ → ℕ → Option ℕ
+one_digit_more (Some n) b = with_digit n b
+one_digit_more None b = None
 
-unfoldable pub number_on : ℕ → List ℕ → ℕ
+unfoldable pub number_on : Option ℕ → List ℕ → Option ℕ
 number_on n [] = n
-number_on n (b ∷ rest) = number_on (with_digit n b) rest
+number_on n (b ∷ rest) = number_on (one_digit_more n b) rest
 
-abbrev pub number : List ℕ → ℕ
-number word = number_on 0 word
-
--- no octet: more than each is, and so is a byte that is no hexadecimal digit
-abbrev pub no_octet : ℕ
-no_octet = 256
+abbrev pub number : List ℕ → Option ℕ
+number word = number_on (Some 0) word
 
 -- a hexadecimal digit, in upper or lower case
-unfoldable pub hex_value : ℕ → ℕ
+unfoldable pub hex_value : ℕ → Option ℕ
 hex_value b =
-    when (nat_lt b 48) no_octet
-    (when (nat_le b 57) (b - 48)
-    (when (nat_lt b 65) no_octet
-    (when (nat_le b 70) (b - 55)
-    (when (nat_lt b 97) no_octet
-    (when (nat_le b 102) (b - 87) no_octet)))))
+    when (nat_lt b 48) None
+    (when (nat_le b 57) (Some (b - 48))
+    (when (nat_lt b 65) None
+    (when (nat_le b 70) (Some (b - 55))
+    (when (nat_lt b 97) None
+    (when (nat_le b 102) (Some (b - 87)) None)))))
 
--- an octet as two hexadecimal digits, and no octet for every other word
-unfoldable pub octet : List ℕ → ℕ
-octet word = when (length word == 2) (16 * hex_value (slice_index word 0) + hex_value (slice_index word 1)) no_octet
+abbrev pub two_digits : Option ℕ → Option ℕ → Option ℕ
+two_digits (Some high) (Some low) = Some (16 * high + low)
+two_digits (Some high) None = None
+two_digits None low = None
+
+-- an octet as two hexadecimal digits, and none for every other word
+unfoldable pub octet : List ℕ → Option ℕ
+octet word = when (length word == 2) (two_digits (hex_value (slice_index word 0)) (hex_value (slice_index word 1))) None
 
 -- how many line feeds stand in a text
 abbrev pub line_feeds : List ℕ → ℕ

@@ -21,10 +21,10 @@ ghost use Rattle.std.specs.List.{prefix_len};
 ghost use Rattle.laws.specs.Logic.{when, both};
 ghost use Rattle.laws.specs.Front.{front};
 ghost use Rattle.printing.specs.Page.{typed};
-ghost use Rattle.plans.specs.Text.{ends_word, number, hex_value, octet, lines_before, word_at};
-ghost use Rattle.plans.specs.Reading.{mistaken, going, place, set_at, store, added, say, first_of, is_said, begin_named, behind_name, lacks_call, planning, cadenced, answering, all_said, nothing_yet, part_word, name_word, is_on, is_answer, number_word, listed, one_of, read_word, modes_of, record_of, record_mistake, with_home, finish_end, finish_line, between, scan_after, begins_word, read_byte, fresh, finished, read_text, bit_place, marked, octet_at, octets_in, call_not_had, default_on, default_off, default_answer};
+ghost use Rattle.plans.specs.Text.{ends_word, with_digit, number, hex_value, octet, lines_before, word_at};
+ghost use Rattle.plans.specs.Reading.{mistaken, going, place, set_at, store, added, say, first_of, is_said, begin_named, behind_name, lacks_call, planning, cadenced, answering, all_said, nothing_yet, part_word, name_word, is_on, is_answer, at_number, at_octets, number_word, listed, one_of, read_word, modes_of, record_of, record_mistake, with_home, finish_end, finish_line, between, scan_after, begins_word, read_byte, fresh, finished, read_text, bit_place, marked_bit, marked, octet_at, octets_in, call_not_had, default_on, default_off, default_answer};
 ghost use Rattle.plans.specs.Plain.{function_text, functions_text, wants_text, end_text, entry_front, octets_text, bits_text, damage_text, decimal, caller_text, called_text, head_text, cadence_text, plain};
-ghost use Rattle.plans.specs.Inner.{told_text, lacking, bit_at};
+ghost use Rattle.plans.specs.Inner.{told_text, lacking};
 ghost use Rattle.cadence.specs.Cadence.{is_cadence};
 ghost use Rattle.steps.specs.Session.{default_te};
 
@@ -153,19 +153,10 @@ const LINE_FEED: u8 = 10;
 
 const COMMENT: u8 = b'#';
 
-// What `number` answers for a word that is none: more than any number that may be written.
-const NO_NUMBER: u32 = 100000;
-
-// More than any octet: what is told of a byte that is no hexadecimal digit, and of a word that is no octet.
-const NO_OCTET: u32 = 256;
-
 // The characters of ASCII that stand ten before A and ten before a.
 const TEN_BEFORE_A: u8 = 55;
 
 const TEN_BEFORE_SMALL_A: u8 = 87;
-
-// No place: past the end of every slice.
-const NOWHERE: usize = 18446744073709551615;
 
 // Te of a start without a value.
 const DEFAULT_TE: u16 = steps::DEFAULT_TE as u16;
@@ -276,62 +267,51 @@ pub fn word_at(text: &[u8], at: usize) -> &[u8]
     &rest[..word_length(rest)]
 }
 
+// A number with one digit more, below 100,000.
+#[tactic(auto, using(laws::proofs::Cases::cases), unfolding(laws::specs::Logic::when))]
+fn with_digit(n: u32, next: u8) -> Option<u32>
+    ensures { result ≡ with_digit n next }
+{
+    match next {
+        b'0'..=b'9' if n <= 9999 => Some(10 * n + (next - b'0') as u32),
+        _ => None,
+    }
+}
+
 // A decimal number below 100,000.
-fn number(word: &[u8]) -> u32
+fn number(word: &[u8]) -> Option<u32>
     ensures { result ≡ number word.now }
 {
     let mut n: u32 = 0;
-    let mut i: usize = 0;
-    while i < word.len() {
-        let b = word[i];
-        if b < b'0' {
-            return NO_NUMBER;
-        }
-        if b'9' < b {
-            return NO_NUMBER;
-        }
-        if 9999 < n {
-            return NO_NUMBER;
-        }
-        n = 10 * n + (b - b'0') as u32;
-        i += 1;
+    for &b in word {
+        n = with_digit(n, b)?;
     }
-    n
+    Some(n)
 }
 
 // The value of a hexadecimal digit, in upper or lower case.
-fn hex_value(b: u8) -> u32
-    ensures { result ≡ hex_value b }
+#[tactic(auto, using(laws::proofs::Cases::cases), unfolding(laws::specs::Logic::when, crate::specs::Text::hex_value))]
+fn hex_value(digit: u8) -> Option<u8>
+    ensures { result ≡ hex_value digit }
 {
-    if b < b'0' {
-        return NO_OCTET;
+    match digit {
+        b'0'..=b'9' => Some(digit - b'0'),
+        b'A'..=b'F' => Some(digit - TEN_BEFORE_A),
+        b'a'..=b'f' => Some(digit - TEN_BEFORE_SMALL_A),
+        _ => None,
     }
-    if b <= b'9' {
-        return (b - b'0') as u32;
-    }
-    if b < b'A' {
-        return NO_OCTET;
-    }
-    if b <= b'F' {
-        return (b - TEN_BEFORE_A) as u32;
-    }
-    if b < b'a' {
-        return NO_OCTET;
-    }
-    if b <= b'f' {
-        return (b - TEN_BEFORE_SMALL_A) as u32;
-    }
-    NO_OCTET
 }
 
 // An octet, in two hexadecimal digits.
-fn octet(word: &[u8]) -> u32
+fn octet(word: &[u8]) -> Option<u8>
     ensures { result ≡ octet word.now }
 {
-    if word.len() == 2 {
-        return 16 * hex_value(word[0]) + hex_value(word[1]);
+    if word.len() != 2 {
+        return None;
     }
-    NO_OCTET
+    let high = hex_value(word[0])?;
+    let low = hex_value(word[1])?;
+    Some(16 * high + low)
 }
 
 // Where one of the eight sets of an end stands.
@@ -628,22 +608,44 @@ fn number_word(r: Reading, n: u32) -> Reading
     }
 }
 
+// Whether a number is asked for.
+#[tactic(auto, using(laws::proofs::Cases::cases), unfolding(laws::specs::Logic::either))]
+fn at_number(r: Reading) -> bool
+    ensures { result ≡ at_number r }
+{
+    r.context == AFTER_TE
+        || (r.context == AFTER_CADENCE
+            || (r.context == AFTER_ON
+                || (r.context == AFTER_ANSWERS || (r.context == FIRST_BIT || r.context == BITS))))
+}
+
+// Whether an octet is.
+#[tactic(auto, using(laws::proofs::Cases::cases), unfolding(laws::specs::Logic::either))]
+fn at_octets(r: Reading) -> bool
+    ensures { result ≡ at_octets r }
+{
+    r.context == FIRST_OCTET || r.context == OCTETS
+}
+
+// A word: the number, the octet or the name that is asked for, or a mistake.
 fn read_word(r: Reading, word: &[u8]) -> Reading
     ensures { result ≡ read_word r word.now }
 {
-    let context = r.context;
-    match context {
-        AFTER_TE | AFTER_CADENCE => number_word(r, number(word)),
-        FIRST_BIT | AFTER_ON => number_word(r, number(word)),
-        BITS | AFTER_ANSWERS => number_word(r, number(word)),
-        FIRST_OCTET => listed(r, 255, octet(word), OCTETS),
-        OCTETS => listed(r, 255, octet(word), OCTETS),
-        _ => {
-            let Some(m) = names::named(word) else {
-                return mistaken(r, context);
-            };
-            name_word(r, m)
-        }
+    if at_number(r) {
+        return match number(word) {
+            Some(n) => number_word(r, n),
+            None => mistaken(r, r.context),
+        };
+    }
+    if at_octets(r) {
+        return match octet(word) {
+            Some(_) => going(r, OCTETS),
+            None => mistaken(r, r.context),
+        };
+    }
+    match names::named(word) {
+        Some(m) => name_word(r, m),
+        None => mistaken(r, r.context),
     }
 }
 
@@ -850,29 +852,18 @@ fn begins_entry(scan: u8, b: u8, context: u8, first: u8, further: u8) -> bool
     false
 }
 
-// The place of a damaged bit, where one stands at a byte of a text.
-fn bit_at(r: Reading, scan: u8, text: &[u8], i: usize) -> usize
-    requires { i < length text.now }
-    ensures { result ≡ bit_at r scan (slice_index text.now i) (drop (i + 1) text.now) }
-{
-    if begins_entry(scan, text[i], r.context, FIRST_BIT, BITS) {
-        return bit_place(r.end, number(word_at(text, i)));
-    }
-    NOWHERE
-}
-
 // The octet that stands at a byte of a text, in the line of an end or in one that is about none, where one does.
-fn octet_at(end: u8, r: Reading, scan: u8, text: &[u8], i: usize) -> u32
+fn octet_at(end: u8, r: Reading, scan: u8, text: &[u8], i: usize) -> Option<u8>
     requires { i < length text.now }
     ensures { result ≡ octet_at end r scan (slice_index text.now i) (drop (i + 1) text.now) }
 {
     if r.end != end {
-        return NO_OCTET;
+        return None;
     }
     if begins_entry(scan, text[i], r.context, FIRST_OCTET, OCTETS) {
         return octet(word_at(text, i));
     }
-    NO_OCTET
+    None
 }
 
 // Writes a byte at a place, where there is one.
@@ -881,6 +872,18 @@ fn write_at(out: &mut [u8], at: usize, b: u8)
 {
     if at < out.len() {
         out[at] = b;
+    }
+}
+
+// Marks the damaged bit that stands at a byte of a text, where one does that has a place.
+fn mark_bit(damaged: &mut [u8], r: Reading, scan: u8, text: &[u8], i: usize)
+    requires { i < length text.now }
+    ensures { damaged.new ≡ marked_bit r scan (slice_index text.now i) (drop (i + 1) text.now) damaged.old }
+{
+    if begins_entry(scan, text[i], r.context, FIRST_BIT, BITS) {
+        if let Some(time) = number(word_at(text, i)) {
+            write_at(damaged, bit_place(r.end, time), 1);
+        }
     }
 }
 
@@ -896,7 +899,7 @@ pub fn mark(text: &[u8], damaged: &mut [u8])
     let mut scan = BETWEEN;
     let mut i: usize = 0;
     while i < text.len() {
-        write_at(damaged, bit_at(r, scan, text, i), 1);
+        mark_bit(damaged, r, scan, text, i);
         r = read_byte(r, scan, text, i);
         scan = scan_after(scan, text[i]);
         i += 1;
@@ -917,9 +920,8 @@ pub fn put_octets_of(text: &[u8], end: u8, out: &mut [u8]) -> usize
     let mut n: usize = 0;
     let mut i: usize = 0;
     while i < text.len() {
-        let b = octet_at(end, r, scan, text, i);
-        if b < NO_OCTET {
-            write_at(out, n, b as u8);
+        if let Some(b) = octet_at(end, r, scan, text, i) {
+            write_at(out, n, b);
             n += 1;
         }
         r = read_byte(r, scan, text, i);

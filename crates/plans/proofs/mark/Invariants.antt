@@ -5,7 +5,7 @@ use Rattle.plans.specs.Reading.{between, fresh, marked_from}
 use Rattle.plans.proofs.mark.Given as goal
 
 abbrev pub invariant-loop-i : goal.invariant-loop-i
-invariant-loop-i l = (marked_from l.r l.scan (drop l.i l.text) l.damaged ≡ marked_from fresh between l.text l.initial.damaged) × (l.i ≤ length l.text) × (length l.damaged ≡ length l.initial.damaged)
+invariant-loop-i l = (marked_from l.r l.scan (drop l.i l.text) l.damaged ≡ marked_from fresh between l.text l.initial.damaged) × (l.i ≤ length l.text)
 
 abbrev pub decreases-loop-i : goal.decreases-loop-i
 decreases-loop-i l = length l.text - l.i

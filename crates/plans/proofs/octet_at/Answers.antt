@@ -3,7 +3,7 @@
 use Rattle.std.proofs.Common.{sym, ap, ◌∙◌, ap₂, eq-eqb, ne_eqb}
 use Rattle.laws.specs.Logic.{when, both}
 use Rattle.laws.proofs.Logic.{both_neither}
-use Rattle.plans.specs.Text.{no_octet, octet}
+use Rattle.plans.specs.Text.{octet}
 use Rattle.plans.proofs.Walk.{entry_here}
 use Rattle.plans.proofs.octet_at.Goals as goal
 
@@ -12,11 +12,11 @@ unfolding when
 returns-then-r-end c = simp (ne_eqb _ _ c.if-r-end.true, both_neither)
 
 pub returns-then-begins_entry : goal.returns-then-begins_entry
-unfolding both
+unfolding both when
 returns-then-begins_entry c =
     let args = c.args in
     let is-octet = ap₂ both (sym c.begins_entry.ensures ∙ c.if-begins_entry.true) (eq-eqb _ _ c.if-r-end.false) in
-    c.octet.ensures ∙ ap octet c.word_at.ensures ∙ sym (entry_here args.text.now args.i c.requires octet no_octet _ is-octet)
+    simp is-octet (c.octet.ensures ∙ ap octet c.word_at.ensures ∙ entry_here args.text.now args.i c.requires octet)
 
 pub returns : goal.returns
 unfolding when both

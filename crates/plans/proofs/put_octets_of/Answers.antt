@@ -1,14 +1,13 @@
 -- `plans::put_octets_of` meets its contract. Invariant: the octets that are written and those of the rest of the text are all of them.
 -- Assumes nothing.
-use Rattle.std.proofs.Common.{◌≡◌, ℕ, ◌+◌, List, [], length, drop, sym, ap, ◌∙◌, subst, arith, w64, Fits, rules}
-use mir.Facts.{Fits-below}
+use Rattle.std.proofs.Common.{◌≡◌, ℕ, ◌+◌, Option, List, [], ◌++◌, length, drop, sym, ap, ◌∙◌, subst, arith, w64, Fits, rules}
 use Rattle.laws.specs.Logic.{when}
 use Rattle.plans.specs.declared.Reading.{Reading}
-use Rattle.plans.specs.Reading.{between, fresh, octets_from, octets_in}
-use Rattle.plans.proofs.Walk.{one_octet_lem, none_octet, octets_on, octets_end}
+use Rattle.plans.specs.Reading.{between, fresh, one_octet, octets_from, octets_in}
+use Rattle.plans.proofs.Walk.{octets_on, octets_end}
 use Rattle.plans.proofs.Writing.{fitted, fitted_none, Written, written_none, written_one, written_on, written_all}
 use Rattle.plans.proofs.put_octets_of.Goals.{In-loop-i}
-use Rattle.plans.proofs.put_octets_of.Goals.{then-b-lt-NO_OCTET, else-b-lt-NO_OCTET}
+use Rattle.plans.proofs.put_octets_of.Goals.{in-Some, in_default}
 use Rattle.plans.proofs.put_octets_of.Goals as goal
 
 pub returns-then-is_err : goal.returns-then-is_err
@@ -23,9 +22,6 @@ loop-i-init c =
     let args = c.args in
     let all = octets_from args.end fresh between args.text.now in
     (subst (λ (r : Reading). Written all (octets_from args.end r between args.text.now) args.out.now args.out.now 0) (sym c.begin-r.ensures) (written_none all args.out.now), search rules, search rules, search rules)
-
-pub overflow_cast-b : goal.overflow_cast-b
-overflow_cast-b c = Fits-below {n = 255} tt (omega (arith, c.if-b-lt-NO_OCTET.true))
 
 n_fits : (body : In-loop-i) → Fits w64 (body.loop-i.n + 1)
 n_fits body = search rules
@@ -45,17 +41,17 @@ loop-i-preserved c =
     let i = c.loop-i.i in
     let more = c.loop-i-test.true in
     let rest = octets_from c.args.end c.read_byte-r.result c.scan_after-scan.result (drop (i + 1) text) in
-    let on = octets_on text i more c.loop-i.r c.loop-i.scan c.read_byte-r.result c.read_byte-r.ensures c.args.end c.scan_after-scan.result c.octet_at-b.result c.scan_after-scan.ensures c.octet_at-b.ensures in
-    let same = c.if-b-lt-NO_OCTET.auto.out ∙ c.loop-i.invariant.3 in
-    elim c.if-b-lt-NO_OCTET.branch [
-      | then-b-lt-NO_OCTET w ↦ (
-        written_one c.loop-i.invariant.0 c.octet_at-b.result rest _ _ (on ∙ one_octet_lem c.octet_at-b.result rest w.if-b-lt-NO_OCTET.true) (w.out-is ∙ w.write_at.ensures) w.n-is,
+    let on = octets_on text i more c.loop-i.r c.loop-i.scan c.read_byte-r.result c.read_byte-r.ensures c.args.end c.scan_after-scan.result c.octet_at.result c.scan_after-scan.ensures c.octet_at.ensures in
+    let same = c.match-octet_at.auto.out ∙ c.loop-i.invariant.3 in
+    elim c.match-octet_at.branch [
+      | in-Some w ↦ (
+        written_one c.loop-i.invariant.0 w.in-Some.b rest _ _ (on ∙ ap (λ (one : Option ℕ). one_octet one ++ rest) w.in-Some.is) (w.out-is ∙ w.write_at.ensures) w.n-is,
         omega (arith, more),
         omega (arith, w.n-is, c.loop-i.invariant.2),
         same,
       )
-      | else-b-lt-NO_OCTET w ↦ (
-        written_on c.loop-i.invariant.0 rest _ _ (on ∙ none_octet c.octet_at-b.result rest w.if-b-lt-NO_OCTET.false) w.out-is w.n-is,
+      | in_default w ↦ (
+        written_on c.loop-i.invariant.0 rest _ _ (on ∙ ap (λ (one : Option ℕ). one_octet one ++ rest) w.in_default.is) w.out-is w.n-is,
         omega (arith, more),
         omega (arith, w.n-is, c.loop-i.invariant.2),
         same,

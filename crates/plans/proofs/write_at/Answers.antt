@@ -1,7 +1,7 @@
 -- `plans::write_at` meets its contract: a place past the end changes nothing.
 -- Assumes nothing.
 use Rattle.std.proofs.Common.{sym}
-use Rattle.plans.proofs.Walk.{set_past}
+use Rattle.std.proofs.lemmas.List.{set_past}
 use Rattle.plans.proofs.write_at.Goals as goal
 
 pub returns-else-at-out : goal.returns-else-at-out
