@@ -1,12 +1,18 @@
--- Choices are known by what they say.
+-- A menu that was refused is answered with its refusal; and that choices are known by what they say.
 -- Assumes nothing.
-use Rattle.std.specs.Prelude.{Result, Ok, Err}
+use Rattle.std.specs.Prelude.{ℕ, List, Result, Ok, Err}
 use mathlib.Core.Path.{◌≡◌, refl, sym, ap, ◌∙◌}
 use Rattle.refusals.specs.declared.Refusal.{Refusal}
+use Rattle.refusals.specs.Refusals.{number}
 use Rattle.refusals.proofs.Numbers.{named, named_number}
+use Rattle.menus.specs.declared.Offer.{Offer}
+use Rattle.menus.specs.Offer.{Read, says_read, menu_read}
 use Rattle.choices.specs.declared.Choice.{Choice}
 use Rattle.choices.specs.declared.Choice.TheVariants.{Nothing, Mode, Pcm}
-use Rattle.choices.specs.Choosing.{Chosen, none, item, pcm, refusal, says_choice}
+use Rattle.choices.specs.Choosing.{Chosen, none, item, pcm, refusal, says_choice, on_read}
+
+pub on_refused : (octets : List ℕ) (menu : Result Offer Refusal) (read : says_read menu ≡ menu_read octets) (go : Offer → Chosen) (r : Refusal) → menu ≡ Err r → refusal (number r) ≡ on_read (menu_read octets) go
+on_refused octets menu read go r e = ap (λ (m : Read). on_read m go) (ap says_read (sym e) ∙ read)
 
 -- no two answers say the same
 abbrev choosing : Chosen → Result Choice Refusal

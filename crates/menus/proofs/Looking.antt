@@ -25,6 +25,20 @@ use Rattle.octets.proofs.Lists.{accepted_short}
 use Rattle.refusals.proofs.Numbers.{number_some}
 use Rattle.menus.specs.Groups.{says_found, Looked, place, nowhere, refusal, opens_group, first_group, looked, front_part, part_at, onward, part_start}
 
+-- one octet at a time
+module _ (t : ℕ) (s : List ℕ) (i : ℕ) where
+  pub group_here : i < length s → opens_group t (get_or s i 0) ≡ true → first_group t i (drop i s) ≡ place i
+  unfolding first_group when
+  group_here h e = simp (drop-cons s i 0 h, e)
+
+  pub group_later : i < length s → opens_group t (get_or s i 0) ≡ false → first_group t i (drop i s) ≡ first_group t (i + 1) (drop (i + 1) s)
+  unfolding first_group when
+  group_later h e = simp (drop-cons s i 0 h, e, add-one)
+
+  pub group_none : length s ≤ i → first_group t i (drop i s) ≡ nowhere
+  unfolding first_group
+  group_none h = simp (drop_of_length-le s h)
+
 -- the first octet that opens a group of the tag is the group's place
 place_by : (test : Bool) (i : ℕ) (found : Option ℕ) (later : Looked) → says_found (Ok found) ≡ later → says_found (Ok (cond test (Some i) found)) ≡ when test (place i) later
 unfolding when
