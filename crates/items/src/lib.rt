@@ -122,14 +122,10 @@ fn extension_octet(five: u16) -> u8
 pub fn modulation_octet(items: u16, octet: u8) -> u8
     ensures { result ≡ modulation_octet items octet }
 {
-    if octet == 0 {
-        return MODULATION + 32 * ((items % 8) as u8);
+    match octet {
+        0 => MODULATION + 32 * ((items % 8) as u8),
+        1 => extension_octet(items / 8),
+        2 => extension_octet(items / 256),
+        _ => NO_ITEMS,
     }
-    if octet == 1 {
-        return extension_octet(items / 8);
-    }
-    if octet == 2 {
-        return extension_octet(items / 256);
-    }
-    NO_ITEMS
 }
