@@ -12,8 +12,9 @@ use Rattle.steps.specs.Session.{is_te, default_te}
 use Rattle.plans.specs.declared.Plan.{Plan}
 use Rattle.plans.specs.declared.Mistake.{Mistake}
 use Rattle.plans.specs.declared.Reading.{Reading}
+use Rattle.plans.specs.declared.Scan.{Scan}
 use Rattle.plans.specs.Text.{line_feed, word}
-use Rattle.plans.specs.Reading.{beginning, in_end, bits, octets, first_octet, stranger, done, default_on, default_off, default_answer, is_on, is_answer, no_function, home_not_had, pcm_alone, no_caller, no_answerer, no_call, place, home, set_at, store, lacks_call, planning, is_stranger, is_said, record_of, record_mistake, with_home, finish_end, may_end, finish_line, scan_after, begins_word, read_byte, no_plan, fresh, unless, or_mistaken, missing, with_default, finished, read_from, octet_at, one_octet, octets_from, octets_in, cm_in}
+use Rattle.plans.specs.Reading.{beginning, in_end, bits, octets, first_octet, stranger, done, default_on, default_off, default_answer, is_on, is_answer, no_function, home_not_had, pcm_alone, no_caller, no_answerer, no_call, place, home, set_at, store, lacks_call, planning, is_stranger, is_said, record_of, record_mistake, with_home, finish_end, may_end, finish_line, between, scan_after, begins_word, read_byte, no_plan, fresh, unless, or_mistaken, missing, with_default, finished, read_from, octet_at, one_octet, octets_from, octets_in, cm_in}
 use Rattle.plans.specs.Good.{GoodEnd, KnownCaller, Stranger, Good, PlansAreGood}
 use Rattle.plans.proofs.Cadences.{both_periods}
 use Rattle.plans.proofs.Marking.{zeros_at}
@@ -96,7 +97,7 @@ module _ (cm : List ℕ) (r : Reading) (kept : Kept cm r) where
       (kept_going cm r kept cm beginning (sym ends.0) calling, kept.outside ends.0, λ e. absurd (omega (arith, e))))
       (λ _ none. absurd (not_none none)))
 
-  kept_byte : (scan b : ℕ) (rest : List ℕ) → Later (cm ++ one_octet (octet_at 1 r scan b rest)) (read_byte r scan b rest)
+  kept_byte : (scan : Scan) (b : ℕ) (rest : List ℕ) → Later (cm ++ one_octet (octet_at 1 r scan b rest)) (read_byte r scan b rest)
   unfolding read_byte both when
   kept_byte scan b rest =
       let P = Later (cm ++ one_octet (octet_at 1 r scan b rest)) in
@@ -219,7 +220,7 @@ good_finish cm r at kept =
     let now = kept_line cm r kept right in
     unless_right cm (missing last.plan) at _ (λ none_missing. (good_plan cm last now.0 now.1 none_missing, cm_known now.0.calling now.2, now.0.calling.none)))
 
-good_text : (text cm : List ℕ) (r : Reading) (scan at : ℕ) → Kept cm r → Told (cm ++ octets_from 1 r scan text) (read_from r scan at text)
+good_text : (text cm : List ℕ) (r : Reading) (scan : Scan) (at : ℕ) → Kept cm r → Told (cm ++ octets_from 1 r scan text) (read_from r scan at text)
 unfolding read_from octets_from
 good_text [] cm r scan at kept = rw append-nil (good_finish cm r at kept)
 good_text (b ∷ rest) cm r scan at kept =
@@ -251,6 +252,6 @@ kept_fresh = record {
 pub plans_are_good : PlansAreGood
 unfolding octets_in when
 plans_are_good text plan right =
-    let told = subst (Told (octets_from 1 fresh 0 text)) right (good_text text [] fresh 0 0 kept_fresh) in
-    let same : octets_from 1 fresh 0 text ≡ cm_in text = rw right in
+    let told = subst (Told (octets_from 1 fresh between text)) right (good_text text [] fresh between 0 kept_fresh) in
+    let same : octets_from 1 fresh between text ≡ cm_in text = rw right in
     (told.0, record { octets = are_octets 1 text; some = λ is. rw (← same) (told.1 is); none = λ no. sym same ∙ told.2 no })

@@ -8,6 +8,7 @@ use Rattle.laws.specs.Tests.{every}
 use Rattle.laws.proofs.Logic.{either_way, both_true}
 use Rattle.laws.proofs.Computed.{every_joined}
 use Rattle.plans.specs.declared.Reading.{Reading}
+use Rattle.plans.specs.declared.Scan.{Scan}
 use Rattle.plans.specs.Text.{word, number}
 use Rattle.plans.specs.Reading.{between, scan_after, read_byte, fresh, read_text, bit_place, is_bit, is_octet, mark_at, marked_bit, marked_from, marked, octet_at, one_octet, octets_from, octets_in}
 use Rattle.plans.specs.Good.{Marks, Octets, BlocksAreOctets}
@@ -29,7 +30,7 @@ mark_more end (Some time) damaged marks = marks_set damaged (bit_place end time)
 mark_more end None damaged marks = marks
 
 -- a text is read
-marks_on : (text : List ℕ) (r : Reading) (scan : ℕ) (damaged : List ℕ) → Marks damaged → Marks (marked_from r scan text damaged)
+marks_on : (text : List ℕ) (r : Reading) (scan : Scan) (damaged : List ℕ) → Marks damaged → Marks (marked_from r scan text damaged)
 unfolding marked_from
 marks_on [] r scan damaged marks = marks
 marks_on (b ∷ rest) r scan damaged marks =
@@ -58,7 +59,7 @@ unfolding every both
 one_is (Some n) small = ap (λ (t : Bool). both t true) (lt-ltb n 256 small)
 one_is None _ = refl
 
-octets_on : (text : List ℕ) (end : ℕ) (r : Reading) (scan : ℕ) → Octets (octets_from end r scan text)
+octets_on : (text : List ℕ) (end : ℕ) (r : Reading) (scan : Scan) → Octets (octets_from end r scan text)
 unfolding octets_from every
 octets_on [] end r scan = refl
 octets_on (b ∷ rest) end r scan =

@@ -6,6 +6,7 @@ use Rattle.laws.specs.Logic.{when, both, either}
 use Rattle.laws.specs.Tests.{every}
 use Rattle.laws.proofs.Logic.{both_true, either_false}
 use Rattle.plans.specs.declared.Reading.{Reading}
+use Rattle.plans.specs.declared.Scan.{Scan}
 use Rattle.plans.specs.Text.{blank, line_feed, comment, ends_word, word_length, word, number, octet}
 use Rattle.plans.specs.Reading.{finish_line, read_word, between, in_word, scan_after, read_byte, finished, read_from, at_bits, mark_at, marked_bit, marked_from, at_octets, octet_at, one_octet, octets_from}
 
@@ -31,7 +32,7 @@ abbrev pub found : List ℕ → List ℕ → ℕ → Found
 found damaged octets whose = record { damaged = damaged; octets = octets; whose = whose }
 
 -- a text is read on from a place in it: so many bytes are behind
-pub record Goes (r : Reading) (scan : ℕ) (d : Found) (text : List ℕ) (count : ℕ) (r' : Reading) (scan' : ℕ) (d' : Found) (rest : List ℕ) : Type 0 where
+pub record Goes (r : Reading) (scan : Scan) (d : Found) (text : List ℕ) (count : ℕ) (r' : Reading) (scan' : Scan) (d' : Found) (rest : List ℕ) : Type 0 where
   pub reads : (at : ℕ) → read_from r scan at text ≡ read_from r' scan' (at + count) rest
   pub marks : marked_from r scan text d.damaged ≡ marked_from r' scan' rest d'.damaged
   pub gives : d.octets ++ octets_from d.whose r scan text ≡ d'.octets ++ octets_from d'.whose r' scan' rest
@@ -41,7 +42,7 @@ pub record Run (r : Reading) (d : Found) (text : List ℕ) (r' : Reading) (d' : 
   pub goes : (rest : List ℕ) → Stops rest → Goes r between d (text ++ rest) (length text) r' between d' rest
 
 go_on :
-    {r r' r'' : Reading} {s s' s'' : ℕ} {d d' d'' : Found} {text rest rest' : List ℕ} (m n k : ℕ) → m + n ≡ k → Goes r s d text m r' s' d' rest → Goes r' s' d' rest n r'' s'' d'' rest'
+    {r r' r'' : Reading} {s s' s'' : Scan} {d d' d'' : Found} {text rest rest' : List ℕ} (m n k : ℕ) → m + n ≡ k → Goes r s d text m r' s' d' rest → Goes r' s' d' rest n r'' s'' d'' rest'
     → Goes r s d text k r'' s'' d'' rest'
 go_on {r''} {s''} {rest'} m n k sum first second = record {
   reads = λ at. first.reads at ∙ second.reads (at + m) ∙ ap (λ (place : ℕ). read_from r'' s'' place rest') (omega (arith, sum));
@@ -50,7 +51,7 @@ go_on {r''} {s''} {rest'} m n k sum first second = record {
 }
 
 -- one byte
-module _ (r r' : Reading) (s s' b : ℕ) (rest : List ℕ) (d d' : Found) (is_read : read_byte r s b rest ≡ r') (is-scan : scan_after s b ≡ s') (is_right : r'.what ≡ None)
+module _ (r r' : Reading) (s s' : Scan) (b : ℕ) (rest : List ℕ) (d d' : Found) (is_read : read_byte r s b rest ≡ r') (is-scan : scan_after s b ≡ s') (is_right : r'.what ≡ None)
     (is-marked : marked_bit r s b rest d.damaged ≡ d'.damaged) (is-given : d.octets ++ one_octet (octet_at d.whose r s b rest) ≡ d'.octets) (is-whose : d.whose ≡ d'.whose)
   where
     one_byte : Goes r s d (b ∷ rest) 1 r' s' d' rest

@@ -4,13 +4,14 @@ use Rattle.std.proofs.Common.{◌≡◌, ℕ, suc, ◌+◌, ◌<◌, ◌≤◌, 
 use Rattle.std.specs.List.{prefix_len}
 use Rattle.laws.specs.Logic.{when, either}
 use Rattle.plans.specs.declared.Reading.{Reading}
+use Rattle.plans.specs.declared.Scan.{Scan}
 use Rattle.plans.specs.Text.{blank, ends_word, word_length, word, with_digit, number_on, line_feed, comment, word_at}
-use Rattle.plans.specs.Reading.{read_word, finish_line, between, in_word, in_comment, scan_after, begins_word, read_byte, mistake, finished, read_from, marked_bit, marked_from, octet_at, one_octet, octets_from}
+use Rattle.plans.specs.Reading.{read_word, finish_line, between, in_word, in_comment, is_word, scan_after, begins_word, read_byte, mistake, finished, read_from, marked_bit, marked_from, octet_at, one_octet, octets_from}
 
-abbrev behind : Bool → Bool → Bool → ℕ
+abbrev behind : Bool → Bool → Bool → Scan
 behind feed mark white = when feed between (when mark in_comment (when white between in_word))
 
-ends_lem : (feed mark white : Bool) → not (eqb (behind feed mark white) in_word) ≡ either white (either feed mark)
+ends_lem : (feed mark white : Bool) → not (is_word (behind feed mark white)) ≡ either white (either feed mark)
 unfolding when either
 ends_lem true mark true = refl
 ends_lem false true true = refl
@@ -19,8 +20,19 @@ ends_lem true mark false = refl
 ends_lem false true false = refl
 ends_lem false false false = refl
 
+-- only between words does a word begin
+pub only_between : (ends : Bool) → not ends ≡ when ends false true
+unfolding when
+only_between true = refl
+only_between false = refl
+
+pub never : (ends : Bool) → false ≡ when ends false false
+unfolding when
+never true = refl
+never false = refl
+
 -- a line feed begins no word
-pub feeds_no_word : (scan b : ℕ) → eqb b line_feed ≡ true → begins_word scan b ≡ false
+pub feeds_no_word : (scan : Scan) (b : ℕ) → eqb b line_feed ≡ true → begins_word scan b ≡ false
 unfolding when either
 feeds_no_word scan b feed = rw (eqb-true b line_feed feed)
 
@@ -50,7 +62,7 @@ module _ (b : ℕ) where
       simp (ne_eqb b 10 no-feed, ne_eqb b 35 no-mark, ne_eqb b 32 (λ is. no-blank (inr (inr (inl is)))), ne_eqb b 9 (λ is. no-blank (inl is)), ne_eqb b 13 (λ is. no-blank (inr (inl is))), ne_eqb b 44 (λ is. no-blank (inr (inr (inr is)))))
 
   -- a byte ends a word where no word stands behind it
-  pub word_over : not (eqb (scan_after between b) in_word) ≡ ends_word b
+  pub word_over : not (is_word (scan_after between b)) ≡ ends_word b
   unfolding scan_after when
   word_over = ends_lem (eqb b line_feed) (eqb b comment) (blank b)
 
@@ -99,7 +111,7 @@ module _ (text : List ℕ) (i : ℕ) where
     pub entry_here : {A : Type 0} (value : List ℕ → A) → value (word_at text i) ≡ value (word (this ∷ rest))
     entry_here value = ap (λ (front : List ℕ). value (word front)) here
 
-    module _ (r : Reading) (scan : ℕ) where
+    module _ (r : Reading) (scan : Scan) where
       pub byte_ends : this ≡ line_feed → read_byte r scan this rest ≡ finish_line r
       unfolding read_byte when
       byte_ends ends = simp (eq-eqb this line_feed ends)
@@ -119,7 +131,7 @@ module _ (text : List ℕ) (i : ℕ) where
       byte_passes within passes = within_line within ∙ ap (λ (t : Bool). when t (read_word r (word_at text i)) r) passes
 
       module _ (next : Reading) (is-next : next ≡ read_byte r scan this rest) where
-        pub read_on : (after : ℕ) → after ≡ scan_after scan this → next.what ≡ None → read_from next after (i + 1) rest ≡ read_from r scan i (drop i text)
+        pub read_on : (after : Scan) → after ≡ scan_after scan this → next.what ≡ None → read_from next after (i + 1) rest ≡ read_from r scan i (drop i text)
         unfolding read_from when
         read_on after is-after right = simp (here, ← is-next, right, is-after)
 
@@ -128,12 +140,12 @@ module _ (text : List ℕ) (i : ℕ) where
         read_stop what wrong = simp (here, ← is-next, wrong)
 
         pub marked_on :
-            (after : ℕ) (damaged now : List ℕ) → after ≡ scan_after scan this → now ≡ marked_bit r scan this rest damaged
+            (after : Scan) (damaged now : List ℕ) → after ≡ scan_after scan this → now ≡ marked_bit r scan this rest damaged
             → marked_from next after rest now ≡ marked_from r scan (drop i text) damaged
         unfolding marked_from
         marked_on after damaged now is-after is-now = simp (here, is-after, is-now) (ap (λ (x : Reading). marked_from x (scan_after scan this) rest (marked_bit r scan this rest damaged)) is-next)
 
-        pub octets_on : (end after : ℕ) (n : Option ℕ) → after ≡ scan_after scan this → n ≡ octet_at end r scan this rest → octets_from end r scan (drop i text) ≡ one_octet n ++ octets_from end next after rest
+        pub octets_on : (end : ℕ) (after : Scan) (n : Option ℕ) → after ≡ scan_after scan this → n ≡ octet_at end r scan this rest → octets_from end r scan (drop i text) ≡ one_octet n ++ octets_from end next after rest
         unfolding octets_from
         octets_on end after n is-after is-n =
             let is_read = ap (λ (x : Reading). one_octet (octet_at end r scan this rest) ++ octets_from end x (scan_after scan this) rest) (sym is-next) in
@@ -147,15 +159,15 @@ module _ (text : List ℕ) (i : ℕ) where
     unfolding number_on
     number_past n = simp nothing
 
-    pub read_end : (r : Reading) (scan : ℕ) → read_from r scan i (drop i text) ≡ finished r i
+    pub read_end : (r : Reading) (scan : Scan) → read_from r scan i (drop i text) ≡ finished r i
     unfolding read_from
     read_end r scan = simp nothing
 
-    pub marked_end : (r : Reading) (scan : ℕ) (damaged : List ℕ) → marked_from r scan (drop i text) damaged ≡ damaged
+    pub marked_end : (r : Reading) (scan : Scan) (damaged : List ℕ) → marked_from r scan (drop i text) damaged ≡ damaged
     unfolding marked_from
     marked_end r scan damaged = simp nothing
 
-    pub octets_end : (end : ℕ) (r : Reading) (scan : ℕ) → octets_from end r scan (drop i text) ≡ []
+    pub octets_end : (end : ℕ) (r : Reading) (scan : Scan) → octets_from end r scan (drop i text) ≡ []
     unfolding octets_from
     octets_end end r scan = simp nothing
 

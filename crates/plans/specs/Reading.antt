@@ -1,5 +1,5 @@
 -- A call text, read into a plan or the first mistake in it.
-use Rattle.std.specs.Prelude.{ℕ, ◌+◌, ◌*◌, ◌/◌, ◌%◌, ◌^◌, Bool, false, List, [], ◌∷◌, ◌++◌, replicate, Option, Some, None, Result, Ok, Err, is_ok, ◌==◌, nat_lt, slice_index, slice_set}
+use Rattle.std.specs.Prelude.{ℕ, ◌+◌, ◌*◌, ◌/◌, ◌%◌, ◌^◌, Bool, true, false, List, [], ◌∷◌, ◌++◌, replicate, Option, Some, None, Result, Ok, Err, is_ok, ◌==◌, nat_lt, slice_index, slice_set}
 use Rattle.laws.specs.Logic.{when, both, either}
 use Rattle.items.specs.Items.{in_set}
 use Rattle.names.specs.declared.Meaning.{Meaning}
@@ -12,6 +12,8 @@ use Rattle.steps.specs.Session.{between as in_range, is_te, default_te}
 use Rattle.plans.specs.declared.Plan.{Plan}
 use Rattle.plans.specs.declared.Mistake.{Mistake}
 use Rattle.plans.specs.declared.Reading.{Reading}
+use Rattle.plans.specs.declared.Scan.{Scan}
+use Rattle.plans.specs.declared.Scan.TheVariants.{Between, InWord, InComment}
 use Rattle.plans.specs.Text.{blank, ends_word, line_feed, comment, word, number, octet}
 
 -- what may come next: a line; in an end's line; behind `home`, `wants`, `call`, `Te`, `damaged`; the first bit, further bits; the line's end.
@@ -435,24 +437,39 @@ unfoldable pub finish_line : Reading → Reading
 finish_line r = when (r.context == in_end) (finish_end r) (when (may_end r.context) (going r beginning) (mistaken r r.context))
 
 -- where a byte stands: between words, in a word, in a comment
-abbrev pub between : ℕ
-between = 0
+abbrev pub between : Scan
+between = Between
 
-abbrev pub in_word : ℕ
-in_word = 1
+abbrev pub in_word : Scan
+in_word = InWord
 
-abbrev pub in_comment : ℕ
-in_comment = 2
+abbrev pub in_comment : Scan
+in_comment = InComment
+
+abbrev pub is_between : Scan → Bool
+is_between Between = true
+is_between InWord = false
+is_between InComment = false
+
+abbrev pub is_word : Scan → Bool
+is_word Between = false
+is_word InWord = true
+is_word InComment = false
+
+abbrev pub is_comment : Scan → Bool
+is_comment Between = false
+is_comment InWord = false
+is_comment InComment = true
 
 -- where the byte behind a byte stands
-unfoldable pub scan_after : ℕ → ℕ → ℕ
-scan_after scan b = when (b == line_feed) between (when (scan == in_comment) in_comment (when (b == comment) in_comment (when (blank b) between in_word)))
+unfoldable pub scan_after : Scan → ℕ → Scan
+scan_after scan b = when (b == line_feed) between (when (is_comment scan) in_comment (when (b == comment) in_comment (when (blank b) between in_word)))
 
-abbrev pub begins_word : ℕ → ℕ → Bool
-begins_word scan b = when (ends_word b) false (scan == between)
+abbrev pub begins_word : Scan → ℕ → Bool
+begins_word scan b = when (ends_word b) false (is_between scan)
 
 -- a byte with what follows it: the end of a line, a word, or nothing
-unfoldable pub read_byte : Reading → ℕ → ℕ → List ℕ → Reading
+unfoldable pub read_byte : Reading → Scan → ℕ → List ℕ → Reading
 read_byte r scan b rest = when (b == line_feed) (finish_line r) (when (begins_word scan b) (read_word r (word (b ∷ rest))) r)
 
 abbrev pub no_plan : Plan
@@ -491,7 +508,7 @@ unfoldable pub finished : Reading → ℕ → Result Plan Mistake
 finished r at = unless (finish_line r).what at (unless (missing (finish_line r).plan) at (Ok (with_default (finish_line r).plan)))
 
 -- a text from a place on: up to the first mistake, or to its end
-unfoldable pub read_from : Reading → ℕ → ℕ → List ℕ → Result Plan Mistake
+unfoldable pub read_from : Reading → Scan → ℕ → List ℕ → Result Plan Mistake
 read_from r scan at [] = finished r at
 read_from r scan at (b ∷ rest) = unless (read_byte r scan b rest).what at (read_from (read_byte r scan b rest) (scan_after scan b) (at + 1) rest)
 
@@ -504,7 +521,7 @@ abbrev pub bit_place : ℕ → ℕ → ℕ
 bit_place end time = when (end == 1) time (9000 + time)
 
 -- a damaged bit stands at a byte
-abbrev pub is_bit : Reading → ℕ → ℕ → Bool
+abbrev pub is_bit : Reading → Scan → ℕ → Bool
 is_bit r scan b = both (begins_word scan b) (at_bits r)
 
 -- a bit that a text says is damaged is marked where there is a place for it
@@ -512,10 +529,10 @@ abbrev pub mark_at : ℕ → Option ℕ → List ℕ → List ℕ
 mark_at end (Some time) damaged = slice_set damaged (bit_place end time) 1
 mark_at end None damaged = damaged
 
-abbrev pub marked_bit : Reading → ℕ → ℕ → List ℕ → List ℕ → List ℕ
+abbrev pub marked_bit : Reading → Scan → ℕ → List ℕ → List ℕ → List ℕ
 marked_bit r scan b rest damaged = when (is_bit r scan b) (mark_at r.end (number (word (b ∷ rest))) damaged) damaged
 
-unfoldable pub marked_from : Reading → ℕ → List ℕ → List ℕ → List ℕ
+unfoldable pub marked_from : Reading → Scan → List ℕ → List ℕ → List ℕ
 marked_from r scan [] damaged = damaged
 marked_from r scan (b ∷ rest) damaged = marked_from (read_byte r scan b rest) (scan_after scan b) rest (marked_bit r scan b rest damaged)
 
@@ -524,11 +541,11 @@ unfoldable pub marked : List ℕ → List ℕ → List ℕ
 marked text damaged = when (is_ok (read_text text)) (marked_from fresh between text damaged) damaged
 
 -- an octet of an end's line stands at a byte, or one of a line that is about none
-abbrev pub is_octet : ℕ → Reading → ℕ → ℕ → Bool
+abbrev pub is_octet : ℕ → Reading → Scan → ℕ → Bool
 is_octet end r scan b = both (both (begins_word scan b) (at_octets r)) (r.end == end)
 
 -- which it is, or none
-abbrev pub octet_at : ℕ → Reading → ℕ → ℕ → List ℕ → Option ℕ
+abbrev pub octet_at : ℕ → Reading → Scan → ℕ → List ℕ → Option ℕ
 octet_at end r scan b rest = when (is_octet end r scan b) (octet (word (b ∷ rest))) None
 
 -- a list of one octet, and an empty list where there is none
@@ -536,7 +553,7 @@ abbrev pub one_octet : Option ℕ → List ℕ
 one_octet (Some n) = n ∷ []
 one_octet None = []
 
-unfoldable pub octets_from : ℕ → Reading → ℕ → List ℕ → List ℕ
+unfoldable pub octets_from : ℕ → Reading → Scan → List ℕ → List ℕ
 octets_from end r scan [] = []
 octets_from end r scan (b ∷ rest) = one_octet (octet_at end r scan b rest) ++ octets_from end (read_byte r scan b rest) (scan_after scan b) rest
 

@@ -136,13 +136,6 @@ const FUNCTION_AFTER_CALL: u16 = 256 * names::FUNCTION as u16 + AFTER_CALL as u1
 
 const END_AFTER_DAMAGED: u16 = 256 * names::END as u16 + AFTER_DAMAGED as u16;
 
-// Where the next byte stands: between words, in a word, in a comment.
-const BETWEEN: u8 = 0;
-
-const IN_WORD: u8 = 1;
-
-const IN_COMMENT: u8 = 2;
-
 // How many sets an end has.
 const SETS: u8 = 8;
 
@@ -212,43 +205,64 @@ struct Reading {
     what: Option<u8>,
 }
 
+// Where a byte stands: between words, in a word, in a comment.
+#[derive(Clone, Copy)]
+enum Scan {
+    Between,
+    InWord,
+    InComment,
+}
+
+// A text, read up to a byte: what it says, and where that byte stands.
+#[derive(Clone, Copy)]
+struct Spot {
+    r: Reading,
+    scan: Scan,
+}
+
 // Where the byte behind a byte stands, outside comments.
-fn after_byte(b: u8) -> u8
+fn after_byte(b: u8) -> Scan
     ensures { result ≡ scan_after between b }
 {
     match b {
-        b' ' | b'\t' | b'\r' | b',' => BETWEEN,
-        LINE_FEED => BETWEEN,
-        COMMENT => IN_COMMENT,
-        _ => IN_WORD,
+        b' ' | b'\t' | b'\r' | b',' => Scan::Between,
+        LINE_FEED => Scan::Between,
+        COMMENT => Scan::InComment,
+        _ => Scan::InWord,
     }
 }
 
 // The same behind a byte that may stand in a comment, which a line feed ends.
-fn scan_after(scan: u8, b: u8) -> u8
+fn scan_after(scan: Scan, b: u8) -> Scan
     ensures { result ≡ scan_after scan b }
 {
     if b == LINE_FEED {
-        return BETWEEN;
+        return Scan::Between;
     }
-    if scan == IN_COMMENT {
-        return IN_COMMENT;
+    match scan {
+        Scan::InComment => Scan::InComment,
+        Scan::Between | Scan::InWord => after_byte(b),
     }
-    after_byte(b)
 }
 
 // Whether a byte stands in no word.
 fn ends_word(b: u8) -> bool
     ensures { result ≡ ends_word b }
 {
-    after_byte(b) != IN_WORD
+    match after_byte(b) {
+        Scan::InWord => false,
+        Scan::Between | Scan::InComment => true,
+    }
 }
 
 // Whether a byte begins a word.
-fn begins_word(scan: u8, b: u8) -> bool
+fn begins_word(scan: Scan, b: u8) -> bool
     ensures { result ≡ begins_word scan b }
 {
-    !ends_word(b) && scan == BETWEEN
+    match scan {
+        Scan::Between => !ends_word(b),
+        Scan::InWord | Scan::InComment => false,
+    }
 }
 
 // How long the word at the front of a text is.
@@ -736,24 +750,37 @@ fn finish_line(r: Reading) -> Reading
 }
 
 // What a byte of a text does: the end of a line, a word, or nothing.
-fn read_byte(r: Reading, scan: u8, text: &[u8], i: usize) -> Reading
+fn read_byte(spot: Spot, text: &[u8], i: usize) -> Reading
     requires { i < length text.now }
-    ensures { result ≡ read_byte r scan (slice_index text.now i) (drop (i + 1) text.now) }
+    ensures { result ≡ read_byte spot.r spot.scan (slice_index text.now i) (drop (i + 1) text.now) }
 {
     let b = text[i];
     if b == LINE_FEED {
-        return finish_line(r);
+        return finish_line(spot.r);
     }
-    if begins_word(scan, b) {
-        return read_word(r, word_at(text, i));
+    if begins_word(spot.scan, b) {
+        return read_word(spot.r, word_at(text, i));
     }
-    r
+    spot.r
 }
 
-fn begin() -> Reading
-    ensures { result ≡ fresh }
+// The text read up to the next byte.
+fn step(spot: Spot, text: &[u8], i: usize) -> Spot
+    requires { i < length text.now }
+    ensures r { result.r ≡ read_byte spot.r spot.scan (slice_index text.now i) (drop (i + 1) text.now) }
+    ensures scan { result.scan ≡ scan_after spot.scan (slice_index text.now i) }
 {
-    Reading {
+    Spot {
+        r: read_byte(spot, text, i),
+        scan: scan_after(spot.scan, text[i]),
+    }
+}
+
+// A text of which nothing is read.
+fn begin() -> Spot
+    ensures { result ≡ record { r = fresh; scan = between } }
+{
+    let r = Reading {
         plan: Plan {
             sets: [0u16; 16],
             function: 0,
@@ -767,6 +794,10 @@ fn begin() -> Reading
         first: 0,
         context: BEGIN,
         what: None,
+    };
+    Spot {
+        r,
+        scan: Scan::Between,
     }
 }
 
@@ -818,18 +849,14 @@ fn finish(r: Reading, at: usize) -> Result<Plan, Mistake>
 pub fn read(text: &[u8]) -> Result<Plan, Mistake>
     ensures { result ≡ read_text text.now }
 {
-    let mut r = begin();
-    let mut scan = BETWEEN;
-    let mut i: usize = 0;
-    while i < text.len() {
-        r = read_byte(r, scan, text, i);
-        if let Some(what) = r.what {
+    let mut spot = begin();
+    for i in 0..text.len() {
+        spot = step(spot, text, i);
+        if let Some(what) = spot.r.what {
             return Err(Mistake { what, at: i });
         }
-        scan = scan_after(scan, text[i]);
-        i += 1;
     }
-    finish(r, i)
+    finish(spot.r, text.len())
 }
 
 // The place of a bit of an end among the bits of both: the caller's first.
@@ -843,7 +870,7 @@ pub fn bit_place(end: u8, time: u32) -> usize
 }
 
 // Whether an entry of a list begins at a byte, where the first of it may come, or one behind it.
-fn begins_entry(scan: u8, b: u8, context: u8, first: u8, further: u8) -> bool
+fn begins_entry(scan: Scan, b: u8, context: u8, first: u8, further: u8) -> bool
     ensures { result ≡ both (begins_word scan b) (one_of context first further) }
 {
     if begins_word(scan, b) {
@@ -853,14 +880,14 @@ fn begins_entry(scan: u8, b: u8, context: u8, first: u8, further: u8) -> bool
 }
 
 // The octet that stands at a byte of a text, in the line of an end or in one that is about none, where one does.
-fn octet_at(end: u8, r: Reading, scan: u8, text: &[u8], i: usize) -> Option<u8>
+fn octet_at(end: u8, spot: Spot, text: &[u8], i: usize) -> Option<u8>
     requires { i < length text.now }
-    ensures { result ≡ octet_at end r scan (slice_index text.now i) (drop (i + 1) text.now) }
+    ensures { result ≡ octet_at end spot.r spot.scan (slice_index text.now i) (drop (i + 1) text.now) }
 {
-    if r.end != end {
+    if spot.r.end != end {
         return None;
     }
-    if begins_entry(scan, text[i], r.context, FIRST_OCTET, OCTETS) {
+    if begins_entry(spot.scan, text[i], spot.r.context, FIRST_OCTET, OCTETS) {
         return octet(word_at(text, i));
     }
     None
@@ -876,13 +903,13 @@ fn write_at(out: &mut [u8], at: usize, b: u8)
 }
 
 // Marks the damaged bit that stands at a byte of a text, where one does that has a place.
-fn mark_bit(damaged: &mut [u8], r: Reading, scan: u8, text: &[u8], i: usize)
+fn mark_bit(damaged: &mut [u8], spot: Spot, text: &[u8], i: usize)
     requires { i < length text.now }
-    ensures { damaged.new ≡ marked_bit r scan (slice_index text.now i) (drop (i + 1) text.now) damaged.old }
+    ensures { damaged.new ≡ marked_bit spot.r spot.scan (slice_index text.now i) (drop (i + 1) text.now) damaged.old }
 {
-    if begins_entry(scan, text[i], r.context, FIRST_BIT, BITS) {
+    if begins_entry(spot.scan, text[i], spot.r.context, FIRST_BIT, BITS) {
         if let Some(time) = number(word_at(text, i)) {
-            write_at(damaged, bit_place(r.end, time), 1);
+            write_at(damaged, bit_place(spot.r.end, time), 1);
         }
     }
 }
@@ -895,14 +922,10 @@ pub fn mark(text: &[u8], damaged: &mut [u8])
     if plan.is_err() {
         return;
     }
-    let mut r = begin();
-    let mut scan = BETWEEN;
-    let mut i: usize = 0;
-    while i < text.len() {
-        mark_bit(damaged, r, scan, text, i);
-        r = read_byte(r, scan, text, i);
-        scan = scan_after(scan, text[i]);
-        i += 1;
+    let mut spot = begin();
+    for i in 0..text.len() {
+        mark_bit(damaged, spot, text, i);
+        spot = step(spot, text, i);
     }
 }
 
@@ -915,18 +938,14 @@ pub fn put_octets_of(text: &[u8], end: u8, out: &mut [u8]) -> usize
     if call.is_err() {
         return 0;
     }
-    let mut r = begin();
-    let mut scan = BETWEEN;
+    let mut spot = begin();
     let mut n: usize = 0;
-    let mut i: usize = 0;
-    while i < text.len() {
-        if let Some(b) = octet_at(end, r, scan, text, i) {
+    for i in 0..text.len() {
+        if let Some(b) = octet_at(end, spot, text, i) {
             write_at(out, n, b);
             n += 1;
         }
-        r = read_byte(r, scan, text, i);
-        scan = scan_after(scan, text[i]);
-        i += 1;
+        spot = step(spot, text, i);
     }
     n
 }
