@@ -56,7 +56,8 @@ fn public_functions(source: &str) -> BTreeMap<String, Function> {
         if let Some((_, head)) = line.split_once("impl").filter(|(before, _)| before.is_empty()) {
             let named = head.trim_end_matches('{').rsplit(" for ").next().unwrap_or_default().trim();
             let named = named.strip_prefix("<'a> ").unwrap_or(named);
-            of = format!("{}::", named.split('<').next().unwrap_or_default());
+            // a conversion into a number is called by no type of the crate
+            of = if named == "u8" { String::new() } else { format!("{}::", named.split('<').next().unwrap_or_default()) };
         } else if *line == "}" {
             of.clear();
         }
@@ -175,8 +176,13 @@ fn names() -> BTreeSet<String> {
 
 /// What a source in Rattle or Rust declares, the cases of its enums among that.
 fn declared(source: &str) -> Vec<String> {
-    let is_case = |line: &&str| line.starts_with("    ") && line[4..].starts_with(char::is_uppercase) && line.ends_with(',');
-    let cases = source.lines().filter(is_case).map(|line| line[4..].trim_end_matches(',').split('(').next().unwrap_or_default().to_string());
+    let mut in_enum = false;
+    let is_case = |line: &&str| {
+        in_enum = line.contains("enum ") || in_enum && *line != "}";
+        in_enum && line.starts_with("    ") && line[4..].starts_with(char::is_uppercase) && line.ends_with(',')
+    };
+    let cases: Vec<String> =
+        source.lines().filter(is_case).map(|line| line[4..].trim_end_matches(',').split('(').next().unwrap_or_default().to_string()).collect();
     source
         .lines()
         .flat_map(|line| ["fn ", "struct ", "enum ", "const "].into_iter().filter_map(move |word| Some(line.split_once(word)?.1)))

@@ -44,7 +44,7 @@ as_quiet te s inside te-is end_is state-is =
     rw (te-is, end_is, state-is, chosen_is, ended_is)
 
 -- the difference that wraps is the elapsed time
-difference_is_elapsed : (now entry d : ℕ) → now < 2 ^ 32 → entry < 2 ^ 32 → d < 2 ^ 32 → (d + entry) % 2 ^ 32 ≡ now → d ≡ elapsed now entry
+pub difference_is_elapsed : (now entry d : ℕ) → now < 2 ^ 32 → entry < 2 ^ 32 → d < 2 ^ 32 → (d + entry) % 2 ^ 32 ≡ now → d ≡ elapsed now entry
 unfolding elapsed
 difference_is_elapsed now entry d n e h w = omega arith
 

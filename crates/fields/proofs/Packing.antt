@@ -113,6 +113,11 @@ five_back : (n : ℕ) → n < 32 → five_of (extension_of n) ≡ n
 unfolding all_below both
 five_back n h = eqb→eq (five_of (extension_of n)) n (below (λ (k : ℕ). eqb (five_of (extension_of k)) k) 32 tt n h)
 
+-- as the code has it
+pub five_is : (e : ℕ) → e < 256 → e % 8 + 8 * (e / 64) ≡ five_of e
+unfolding all_below both
+five_is e h = eqb→eq (e % 8 + 8 * (e / 64)) (five_of e) (below (λ (k : ℕ). eqb (k % 8 + 8 * (k / 64)) (five_of k)) 256 tt e h)
+
 pub five_small : (e : ℕ) → five_of e < 32
 five_small e = omega arith
 

@@ -131,6 +131,7 @@ impl State {
     // Lists what the bits report.
     fn list(&mut self, bits: &[u8], lines: &mut Lines<'_>) {
         let mut rest = bits;
+        // no `for`: a turn takes as many bits as there are up to the next report
         while !rest.is_empty() {
             let taken = self.hear(rest, lines);
             rest = &rest[taken..];
