@@ -30,7 +30,7 @@ pub struct Session {
     pub ended: u8,
 }
 
-// The ends.
+// The ends. They, states, endings and events are numbers: C holds them in its session or passes them, and may pass any.
 pub const CALLER: u8 = 1;
 
 pub const ANSWERER: u8 = 2;
@@ -314,7 +314,7 @@ const ROWS: [Row; 23] = [
     },
 ];
 
-// The choice none, the items, and the PCM options, which are held above 16.
+// The choice none, the items, and the PCM options, which are held above 16: numbers, as C holds them in its session.
 const NONE: u8 = 0;
 
 const FIRST_ITEM: u8 = 1;
@@ -533,33 +533,50 @@ fn since(now: u32, entry: u32) -> u32
     now.wrapping_sub(entry)
 }
 
-fn is_own(end: u8, event: u8) -> bool
-    ensures { result ≡ owns end event }
-{
-    event == TICK || is_of_end(end, ANSAM, CJ_SENT, AGREED_CM, CJ, event)
+// An event, what it carries, and its time.
+#[derive(Clone, Copy)]
+struct Event {
+    kind: u8,
+    value: u8,
+    now: u32,
 }
 
-// Whether an event may carry this value. Events that carry nothing have no value to be tested.
-fn may_carry(event: u8, value: u8) -> bool
-    ensures { result ≡ carries event value }
-{
-    if event == AGREED_JM {
-        return value == REFUSED_WITH_11 || is_choice(value);
+impl Event {
+    fn is_own(self, end: u8) -> bool
+        ensures { result ≡ owns end self.kind }
+    {
+        self.kind == TICK || is_of_end(end, ANSAM, CJ_SENT, AGREED_CM, CJ, self.kind)
     }
-    if event == AGREED_CM {
-        return is_choice(value);
-    }
-    if event == SIG_C {
-        return is_item(value);
-    }
-    true
-}
 
-// An event of this end, with a value that it may carry.
-fn may_take(end: u8, event: u8, value: u8) -> bool
-    ensures { result ≡ both (owns end event) (carries event value) }
-{
-    is_own(end, event) && may_carry(event, value)
+    // Whether it may carry its value. Events that carry nothing have no value to be tested.
+    fn may_carry(self) -> bool
+        ensures { result ≡ carries self.kind self.value }
+    {
+        match self.kind {
+            AGREED_JM => self.value == REFUSED_WITH_11 || is_choice(self.value),
+            AGREED_CM => is_choice(self.value),
+            SIG_C => is_item(self.value),
+            _ => true,
+        }
+    }
+
+    // One of this end, with a value that it may carry.
+    fn may_take(self, end: u8) -> bool
+        ensures { result ≡ both (owns end self.kind) (carries self.kind self.value) }
+    {
+        self.is_own(end) && self.may_carry()
+    }
+
+    // The choice once it is taken: an agreed menu brings one.
+    fn choice_after(self, chosen: u8) -> u8
+        ensures { result ≡ chosen_after self.kind self.value chosen }
+    {
+        match self.kind {
+            AGREED_JM if self.value == REFUSED_WITH_11 => NONE,
+            AGREED_JM | AGREED_CM => self.value,
+            _ => chosen,
+        }
+    }
 }
 
 // This tone was heard, or with NO_TONE none, and nothing is left to send.
@@ -569,8 +586,8 @@ fn is_sent(tone: u8, c: Cadence) -> bool
     c.tone == tone && cadence::bits_left(c) == 0
 }
 
-// What each condition comes to, by its number. It is found before rows are looked at: a method that tests the session, asked for each
-// row, misses the speed of a step by a fifth, and one that picks the field of a struct by half (docs/SPEED.md).
+// What each condition comes to, by its number. It is found before rows are looked at: with a method that tests the session for each row
+// a step takes a fifth longer, and with one that picks a field of a struct twice as long (docs/SPEED.md).
 fn what_holds(session: Session, value: u8, passed: u32) -> [bool; 9]
     ensures { result ≡ what_holds session value passed }
 {
@@ -607,40 +624,24 @@ fn find_in(part: &[Row], state: u8, event: u8, passed: u32, holding: [bool; 9]) 
 }
 
 // The table is looked at in two parts, since the compiler unrolls a search of 21 rows at the most (docs/SPEED.md).
-fn find_row(session: Session, event: u8, value: u8, passed: u32) -> Option<To>
-    ensures { result ≡ find_row session event value passed rows }
+fn find_row(session: Session, event: Event, passed: u32) -> Option<To>
+    ensures { result ≡ find_row session event.kind event.value passed rows }
 {
     let table = ROWS;
-    let holding = what_holds(session, value, passed);
-    match find_in(&table[..12], session.state, event, passed, holding) {
+    let holding = what_holds(session, event.value, passed);
+    match find_in(&table[..12], session.state, event.kind, passed, holding) {
         Some(to) => Some(to),
-        None => find_in(&table[12..], session.state, event, passed, holding),
+        None => find_in(&table[12..], session.state, event.kind, passed, holding),
     }
-}
-
-// The choice once an event is taken: an agreed menu brings one.
-fn choice_after(event: u8, value: u8, chosen: u8) -> u8
-    ensures { result ≡ chosen_after event value chosen }
-{
-    if event == AGREED_JM {
-        if value == REFUSED_WITH_11 {
-            return NONE;
-        }
-        return value;
-    }
-    if event == AGREED_CM {
-        return value;
-    }
-    chosen
 }
 
 // The session at a change of state: the time of the event is the entry time.
-fn renew(session: Session, event: u8, value: u8, now: u32) -> Session
-    ensures { result ≡ renewed session event value now }
+fn renew(session: Session, event: Event) -> Session
+    ensures { result ≡ renewed session event.kind event.value event.now }
 {
     Session {
-        entry: now,
-        chosen: choice_after(event, value, session.chosen),
+        entry: event.now,
+        chosen: event.choice_after(session.chosen),
         ..session
     }
 }
@@ -706,19 +707,19 @@ fn remember(session: Session, event: u8) -> Stepped
 }
 
 // The row that applies is taken; where none does, nothing changes.
-fn step_on(session: Session, event: u8, value: u8, now: u32, passed: u32) -> Stepped
-    ensures { Steps (moved session event value now (find_row session event value passed rows)) result }
+fn step_on(session: Session, event: Event, passed: u32) -> Stepped
+    ensures { Steps (moved session event.kind event.value event.now (find_row session event.kind event.value passed rows)) result }
 {
-    let Some(to) = find_row(session, event, value, passed) else {
+    let Some(to) = find_row(session, event, passed) else {
         return Stepped {
             session,
             answer: Ok(Answer::Same),
         };
     };
     if to.0 == session.state {
-        return remember(session, event);
+        return remember(session, event.kind);
     }
-    take_row(renew(session, event, value, now), to)
+    take_row(renew(session, event), to)
 }
 
 fn refuse_step(session: Session, refusal: Refusal) -> Stepped
@@ -731,25 +732,25 @@ fn refuse_step(session: Session, refusal: Refusal) -> Stepped
 }
 
 // An event that this end may take.
-fn step_timed(session: Session, event: u8, value: u8, now: u32) -> Stepped
-    ensures { Steps (timed session event value now) result }
+fn step_timed(session: Session, event: Event) -> Stepped
+    ensures { Steps (timed session event.kind event.value event.now) result }
 {
-    let passed = since(now, session.entry);
+    let passed = since(event.now, session.entry);
     if passed < HALF_RANGE {
-        return step_on(session, event, value, now, passed);
+        return step_on(session, event, passed);
     }
     refuse_step(session, Refusal::Clock)
 }
 
 // A session in range.
-fn step_in(session: Session, event: u8, value: u8, now: u32) -> Stepped
-    ensures { Steps (stepped_in session event value now) result }
+fn step_in(session: Session, event: Event) -> Stepped
+    ensures { Steps (stepped_in session event.kind event.value event.now) result }
 {
     if session.state == OVER {
         return refuse_step(session, Refusal::AfterOver);
     }
-    if may_take(session.end, event, value) {
-        return step_timed(session, event, value, now);
+    if event.may_take(session.end) {
+        return step_timed(session, event);
     }
     refuse_step(session, Refusal::WrongEvent)
 }
@@ -760,7 +761,14 @@ pub fn step(session: Session, event: u8, value: u8, now: u32) -> Stepped
     ensures { Steps (stepped session event value now) result }
 {
     if in_range(session) {
-        return step_in(session, event, value, now);
+        return step_in(
+            session,
+            Event {
+                kind: event,
+                value,
+                now,
+            },
+        );
     }
     refuse_step(session, Refusal::BadRecord)
 }
