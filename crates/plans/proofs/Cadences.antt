@@ -1,9 +1,8 @@
 -- The numbers of a cadence: what its test says of each.
 -- Assumes nothing.
-use Rattle.std.proofs.Common.{◌≡◌, ℕ, ◌<◌, ◌≤◌, true, false, leb, le-leb, leb-true}
-use borrow.Author.Tests.{lt-leb}
+use Rattle.std.proofs.Common.{◌≡◌, ℕ, ◌≤◌, true, leb, le-leb, leb-true}
 use Rattle.laws.specs.Logic.{both}
-use Rattle.laws.proofs.Logic.{both_true, both_neither}
+use Rattle.laws.proofs.Logic.{both_true}
 use Rattle.cadence.specs.Cadence.{is_cadence}
 
 pub record InRange (on off : ℕ) : Type 0 where
@@ -26,11 +25,3 @@ both_periods on off on' off' is-on is-off =
     let first = in_range_lem on off' is-on in
     let second = in_range_lem on' off is-off in
     simp (le-leb 3 on first.least_on, le-leb on 20 first.most_on, le-leb 120 off second.least_off, le-leb off 600 second.most_off)
-
--- a number above its range
-pub long_on : (on off : ℕ) → 20 < on → is_cadence on off ≡ false
-unfolding both
-long_on on off long = simp (lt-leb on 20 long, both_neither)
-
-pub long_off : (on off : ℕ) → 600 < off → is_cadence on off ≡ false
-long_off on off long = simp (lt-leb off 600 long, both_neither)

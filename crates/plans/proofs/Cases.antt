@@ -1,12 +1,12 @@
--- What a word does, the end of a line and the end of a text.
+-- What a word that names something does, and the end of a text.
 -- Assumes nothing.
 use Rattle.std.proofs.Common.{◌≡◌, ℕ, ◌+◌, ◌*◌, ◌<◌, ◌≤◌, true, eqb, ◌⊎◌, Option, Some, None, is_some, Ok, sym, refl, ap, ◌∙◌, inl, inr, arith, le-ltb, lt-ltb, eq-eqb, ne_eqb, eqb-true}
-use Rattle.laws.specs.Logic.{when, either}
+use Rattle.laws.specs.Logic.{when}
 use Rattle.laws.proofs.Logic.{either_way}
 use Rattle.names.specs.declared.Meaning.{Meaning}
 use Rattle.names.specs.Names.{end, line, function, mode, other_mode, part, wanted, quality}
 use Rattle.plans.specs.declared.Reading.{Reading}
-use Rattle.plans.specs.Reading.{beginning, in_end, after_home, after_wants, after_call, after_damaged, first_bit, bits, done, octets, mistaken, going, say, name_function, name_home, name_mode, part_word, end_word, is_said, begin_named, behind_name, first_word, name_call, function_word, name_word, finish_line, mistake, unless, missing, with_default, finished, mode_first, twice, home, set_at, store, first_of}
+use Rattle.plans.specs.Reading.{beginning, in_end, after_home, after_wants, after_call, after_damaged, first_bit, mistaken, say, name_function, name_home, name_mode, part_word, end_word, is_said, begin_named, behind_name, first_word, name_call, function_word, name_word, finish_line, mistake, unless, missing, with_default, finished, mode_first, twice, home, set_at, store, first_of}
 use Rattle.plans.specs.Inner.{lacking}
 
 -- a word that names something: the kind of that decides too
@@ -105,22 +105,6 @@ module _ (r : Reading) (m : Meaning) (small : r.context < 256) where
       (λ _. either_way Slip (eqb m.kind end) _ _
       (λ k. either_way Slip (eqb r.context after_damaged) _ _ (λ t. absurd (no-damage (omega (arith, here after_damaged t, is end k)))) (λ _. refl))
       (λ _. refl)))))
-
--- the end of a line
-module _ (r : Reading) where
-  pub line_ends : ((r.context ≡ beginning) ⊎ (r.context ≡ done)) ⊎ ((r.context ≡ bits) ⊎ (r.context ≡ octets)) → finish_line r ≡ going r beginning
-  unfolding finish_line when either
-  line_ends (inl (inl here)) = simp here
-  line_ends (inl (inr here)) = simp here
-  line_ends (inr (inl here)) = simp here
-  line_ends (inr (inr here)) = simp here
-
-  pub line_stands :
-      (r.context ≡ in_end → ⊥) → ((r.context ≡ beginning) ⊎ (r.context ≡ done) → ⊥) → ((r.context ≡ bits) ⊎ (r.context ≡ octets) → ⊥)
-      → finish_line r ≡ mistaken r r.context
-  unfolding finish_line when either
-  line_stands no_end no_more no-list =
-      simp (ne_eqb r.context in_end no_end, ne_eqb r.context beginning (λ here. no_more (inl here)), ne_eqb r.context bits (λ here. no-list (inl here)), ne_eqb r.context octets (λ here. no-list (inr here)), ne_eqb r.context done (λ here. no_more (inr here)))
 
 -- the end of a text
 module _ (r last : Reading) (at : ℕ) (is_last : last ≡ finish_line r) where

@@ -1,21 +1,14 @@
 -- Laws about the numbers of a plan: sets, and numbers in digits.
 -- Assumes nothing.
-use Rattle.std.proofs.Common.{◌≡◌, ℕ, ◌*◌, ◌%◌, ◌^◌, ◌<◌, true, eqb, ltb, leb, Option, Some, None, List, length, get_or, refl, subst, arith, eqb→eq, ltb-false, ltb-true, lt-ltb, leb-true}
+use Rattle.std.proofs.Common.{◌≡◌, ℕ, ◌<◌, true, eqb, ltb, leb, Option, Some, None, List, length, get_or, refl, subst, arith, ltb-false, ltb-true, lt-ltb, leb-true}
 use Rattle.std.specs.Bool.{⊤}
-use Rattle.laws.specs.Logic.{when, both}
-use Rattle.laws.specs.Tests.{all_below}
+use Rattle.laws.specs.Logic.{when}
 use Rattle.laws.proofs.Logic.{either_way}
-use Rattle.laws.proofs.Computed.{below}
 use Rattle.io.specs.Digits.{IsDigitCount}
 use Rattle.printing.specs.Page.{Page, typed, TypedDecimal}
 use Rattle.printing.proofs.Pages.{typed_decimal_unique}
 use Rattle.plans.specs.Text.{hex_value, two_digits, octet}
 use Rattle.plans.specs.Plain.{decimal}
-
--- the weight of a number below 16 fits a set
-pub weight_fits : (n : ℕ) → n < 16 → 1 * 2 ^ n % 2 ^ 16 ≡ 2 ^ n
-unfolding all_below both
-weight_fits n h = eqb→eq _ _ (below (λ (k : ℕ). eqb (1 * 2 ^ k % 2 ^ 16) (2 ^ k)) 16 tt n h)
 
 -- the digits of a number below 100,000 are the fewest
 fewest : (n : ℕ) → n < 100000 → IsDigitCount 10 1 n (when (ltb n 10) 1 (when (ltb n 100) 2 (when (ltb n 1000) 3 (when (ltb n 10000) 4 5))))

@@ -1,70 +1,17 @@
 -- Laws about texts, one byte at a time.
 -- Assumes nothing.
-use Rattle.std.proofs.Common.{◌≡◌, ℕ, suc, ◌+◌, ◌<◌, ◌≤◌, Bool, true, false, cond, not, eqb, leb, min, ◌⊎◌, Some, None, List, [], ◌∷◌, ◌++◌, length, Option, Some, None, get_or, drop, sym, refl, ap, ◌∙◌, inl, inr, add-one, arith, drop_of_length-le, drop-cons, eq-eqb, ne_eqb, eqb-true, leb-true, leb-false}
+use Rattle.std.proofs.Common.{◌≡◌, ℕ, suc, ◌+◌, ◌<◌, ◌≤◌, Bool, true, false, cond, not, eqb, leb, min, Some, None, List, [], ◌∷◌, ◌++◌, length, Option, Some, None, get_or, drop, sym, refl, ap, ◌∙◌, add-one, arith, drop_of_length-le, drop-cons, eq-eqb, ne_eqb, eqb-true, leb-true, leb-false}
 use Rattle.std.specs.List.{prefix_len}
 use Rattle.laws.specs.Logic.{when, either}
 use Rattle.plans.specs.declared.Reading.{Reading}
 use Rattle.plans.specs.declared.Scan.{Scan}
-use Rattle.plans.specs.Text.{blank, ends_word, word_length, word, with_digit, number_on, line_feed, comment, word_at}
-use Rattle.plans.specs.Reading.{read_word, finish_line, between, in_word, in_comment, is_word, scan_after, begins_word, read_byte, mistake, finished, read_from, marked_bit, marked_from, octet_at, one_octet, octets_from}
-
-abbrev behind : Bool → Bool → Bool → Scan
-behind feed mark white = when feed between (when mark in_comment (when white between in_word))
-
-ends_lem : (feed mark white : Bool) → not (is_word (behind feed mark white)) ≡ either white (either feed mark)
-unfolding when either
-ends_lem true mark true = refl
-ends_lem false true true = refl
-ends_lem false false true = refl
-ends_lem true mark false = refl
-ends_lem false true false = refl
-ends_lem false false false = refl
-
--- only between words does a word begin
-pub only_between : (ends : Bool) → not ends ≡ when ends false true
-unfolding when
-only_between true = refl
-only_between false = refl
-
-pub never : (ends : Bool) → false ≡ when ends false false
-unfolding when
-never true = refl
-never false = refl
+use Rattle.plans.specs.Text.{ends_word, word_length, word, with_digit, number_on, line_feed, word_at}
+use Rattle.plans.specs.Reading.{read_word, finish_line, scan_after, begins_word, read_byte, mistake, finished, read_from, marked_bit, marked_from, octet_at, one_octet, octets_from}
 
 -- a line feed begins no word
 pub feeds_no_word : (scan : Scan) (b : ℕ) → eqb b line_feed ≡ true → begins_word scan b ≡ false
 unfolding when either
 feeds_no_word scan b feed = rw (eqb-true b line_feed feed)
-
--- where the byte behind a byte stands, outside comments
-module _ (b : ℕ) where
-  abbrev Blank : Type 0
-  Blank = (b ≡ 9) ⊎ (b ≡ 13) ⊎ (b ≡ 32) ⊎ (b ≡ 44)
-
-  pub after_blank : Blank → scan_after between b ≡ between
-  unfolding scan_after when either
-  after_blank (inl is) = ap (scan_after between) is
-  after_blank (inr (inl is)) = ap (scan_after between) is
-  after_blank (inr (inr (inl is))) = ap (scan_after between) is
-  after_blank (inr (inr (inr is))) = ap (scan_after between) is
-
-  pub after_feed : b ≡ line_feed → scan_after between b ≡ between
-  unfolding scan_after when
-  after_feed is = ap (scan_after between) is
-
-  pub after_mark : b ≡ comment → scan_after between b ≡ in_comment
-  unfolding scan_after when
-  after_mark is = ap (scan_after between) is
-
-  pub after_other : (Blank → ⊥) → (b ≡ line_feed → ⊥) → (b ≡ comment → ⊥) → scan_after between b ≡ in_word
-  unfolding scan_after when either
-  after_other no-blank no-feed no-mark =
-      simp (ne_eqb b 10 no-feed, ne_eqb b 35 no-mark, ne_eqb b 32 (λ is. no-blank (inr (inr (inl is)))), ne_eqb b 9 (λ is. no-blank (inl is)), ne_eqb b 13 (λ is. no-blank (inr (inl is))), ne_eqb b 44 (λ is. no-blank (inr (inr (inr is)))))
-
-  -- a byte ends a word where no word stands behind it
-  pub word_over : not (is_word (scan_after between b)) ≡ ends_word b
-  unfolding scan_after when
-  word_over = ends_lem (eqb b line_feed) (eqb b comment) (blank b)
 
 -- the word at the front is what stands before the first byte that is in none
 pub word_prefix : (text : List ℕ) → prefix_len (λ b. not (ends_word b)) text ≡ word_length text
@@ -106,10 +53,6 @@ module _ (text : List ℕ) (i : ℕ) where
 
     abbrev rest : List ℕ
     rest = drop (i + 1) text
-
-    -- what stands at a place is read as its word
-    pub entry_here : {A : Type 0} (value : List ℕ → A) → value (word_at text i) ≡ value (word (this ∷ rest))
-    entry_here value = ap (λ (front : List ℕ). value (word front)) here
 
     module _ (r : Reading) (scan : Scan) where
       pub byte_ends : this ≡ line_feed → read_byte r scan this rest ≡ finish_line r
@@ -170,8 +113,3 @@ module _ (text : List ℕ) (i : ℕ) where
     pub octets_end : (end : ℕ) (r : Reading) (scan : Scan) → octets_from end r scan (drop i text) ≡ []
     unfolding octets_from
     octets_end end r scan = simp nothing
-
--- no word stands past the end
-pub no_word : (text : List ℕ) (at : ℕ) → length text ≤ at → word_at text at ≡ []
-unfolding word_length
-no_word text at past = ap word (drop_of_length-le text past)

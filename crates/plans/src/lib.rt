@@ -14,7 +14,7 @@
 //     caller    sends C1 45
 //
 // Words stand apart by blanks, tabs and commas, in upper or lower case; # begins a comment. The lines may come in any order.
-#![tactic(auto)]
+#![tactic(auto, using(laws::proofs::Cases::cases, printing::proofs::Pages::typed_joined, crate::proofs::Numbers::decimal_typed), unfolding(laws::specs::Logic::when, laws::specs::Logic::both, laws::specs::Logic::either, printing::specs::Page::typed, names::specs::Bytes::bytes, crate::specs::Inner::lacking, crate::specs::Text::octet, crate::specs::Plain::function_text, crate::specs::Plain::called_text, crate::specs::Plain::caller_text, crate::specs::Plain::damage_text, crate::specs::Plain::plain, crate::specs::Reading::number_word, crate::specs::Reading::say, crate::specs::Reading::lacks_call, crate::specs::Reading::planning, crate::specs::Reading::cadenced, crate::specs::Reading::answering, crate::specs::Reading::part_word, crate::specs::Reading::is_said, crate::specs::Reading::read_word, crate::specs::Reading::record_of, crate::specs::Reading::record_mistake, crate::specs::Reading::with_home, crate::specs::Reading::finish_end, crate::specs::Reading::finish_line, crate::specs::Reading::missing, crate::specs::Reading::scan_after))]
 
 ghost use Rattle.std.specs.Prelude.{not, Some, ◌≡◌, ◌+◌, ◌-◌, ◌%◌, ◌<◌, ◌≤◌, List, [], ◌++◌, length, take, drop, set, ◌==◌, slice_index};
 ghost use Rattle.std.specs.List.{prefix_len};
