@@ -38,7 +38,7 @@ pub const BIT_TIMES: usize = 9000;
 
 // What may come next in a text: the beginning of a line, or within an end's line, behind `home`, behind `wants`, behind `call`, behind
 // `Te`, behind `damaged`, the first bit and further bits, the end of the line. The same numbers say what is missing where it does not
-// come.
+// come. They are numbers and no enum, so that what does not come is the mistake of its own number, by which a program finds the text for it.
 pub const BEGIN: u8 = 1;
 
 pub const IN_END: u8 = 2;
@@ -113,29 +113,6 @@ pub const OF_BLOCKS: u8 = 0;
 
 pub const OF_CM: u8 = steps::CALLER;
 
-// What a word may name where: the kind of what it names, times 256, and what may come next.
-const END_AT_BEGIN: u16 = 256 * names::END as u16 + BEGIN as u16;
-
-const LINE_AT_BEGIN: u16 = 256 * names::LINE as u16 + BEGIN as u16;
-
-const FUNCTION_IN_END: u16 = 256 * names::FUNCTION as u16 + IN_END as u16;
-
-const MODE_IN_END: u16 = 256 * names::MODE as u16 + IN_END as u16;
-
-const OTHER_MODE_IN_END: u16 = 256 * names::OTHER_MODE as u16 + IN_END as u16;
-
-const PART_IN_END: u16 = 256 * names::PART as u16 + IN_END as u16;
-
-const QUALITY_IN_END: u16 = 256 * names::QUALITY as u16 + IN_END as u16;
-
-const FUNCTION_AFTER_HOME: u16 = 256 * names::FUNCTION as u16 + AFTER_HOME as u16;
-
-const WANTED_AFTER_WANTS: u16 = 256 * names::WANTED as u16 + AFTER_WANTS as u16;
-
-const FUNCTION_AFTER_CALL: u16 = 256 * names::FUNCTION as u16 + AFTER_CALL as u16;
-
-const END_AFTER_DAMAGED: u16 = 256 * names::END as u16 + AFTER_DAMAGED as u16;
-
 // How many sets an end has.
 const SETS: u8 = 8;
 
@@ -175,7 +152,7 @@ const ENTRIES_A_LINE: usize = 16;
 
 // A call: what is said of both ends, the function of the caller or STRANGER, Te, how many sequences CI is on and bit times off, and when the
 // answerer answers. Of each end there are eight sets, the caller's first: what it wants and what its line is; each function's modes, with 0
-// in the set where the end has it; and last, as a number, its home function.
+// in the set where the end has it; and last, as a number, its home function. What is not said is 0: the theorems of specs/Good.antt tell it so.
 #[derive(Clone, Copy)]
 pub struct Plan {
     pub sets: [u16; 16],
@@ -194,7 +171,7 @@ pub struct Mistake {
 }
 
 // A text, read up to a byte: what is planned; of its line the end that it is about, the last function that it names, to which modes belong,
-// and the first; what may come next; and a mistake, where one is made.
+// and the first, each 0 where there is none, which no name has as its number; what may come next; and a mistake, where one is made.
 #[derive(Clone, Copy)]
 struct Reading {
     plan: Plan,
@@ -528,31 +505,32 @@ fn part_word(r: Reading, part: u8) -> Reading
 }
 
 // A word that names something: what may come next and the kind of what it names decide.
+#[tactic(auto, using(laws::proofs::Cases::cases), unfolding(laws::specs::Logic::when, laws::specs::Logic::both, laws::specs::Logic::either, crate::specs::Reading::name_word, crate::specs::Reading::end_word, crate::specs::Reading::first_word, crate::specs::Reading::function_word, crate::specs::Reading::name_function, crate::specs::Reading::name_home, crate::specs::Reading::name_mode, crate::specs::Reading::is_said))]
 fn name_word(r: Reading, m: Meaning) -> Reading
     ensures { result ≡ name_word r m }
 {
     let n = m.number;
-    let case = 256 * m.kind as u16 + r.context as u16;
-    match case {
-        FUNCTION_IN_END => say(r, n, 0, n, first_of(r.first, n)),
-        MODE_IN_END | OTHER_MODE_IN_END => {
+    match (r.context, m.kind) {
+        (IN_END, names::FUNCTION) => say(r, n, 0, n, first_of(r.first, n)),
+        (IN_END, names::MODE | names::OTHER_MODE) => {
             if r.function == 0 {
                 return mistaken(r, MODE_FIRST);
             }
             say(r, r.function, n, r.function, r.first)
         }
-        QUALITY_IN_END | WANTED_AFTER_WANTS => say(r, 0, n, 0, r.first),
-        PART_IN_END => part_word(r, n),
-        END_AT_BEGIN => begin_named(r, n, n, IN_END),
-        LINE_AT_BEGIN => begin_named(r, n, 0, behind_name(n)),
-        FUNCTION_AFTER_HOME => {
+        (IN_END, names::QUALITY) => say(r, 0, n, 0, r.first),
+        (IN_END, names::PART) => part_word(r, n),
+        (BEGIN, names::END) => begin_named(r, n, n, IN_END),
+        (BEGIN, names::LINE) => begin_named(r, n, 0, behind_name(n)),
+        (AFTER_HOME, names::FUNCTION) => {
             if 0 < set_at(r.plan, r.end, HOME) {
                 return mistaken(r, TWICE);
             }
             store(r, HOME, n as u16, 0, r.first)
         }
-        FUNCTION_AFTER_CALL => planning(r, n, r.plan.te, DONE),
-        END_AFTER_DAMAGED => begin_named(r, AFTER_DAMAGED, n, FIRST_BIT),
+        (AFTER_WANTS, names::WANTED) => say(r, 0, n, 0, r.first),
+        (AFTER_CALL, names::FUNCTION) => planning(r, n, r.plan.te, DONE),
+        (AFTER_DAMAGED, names::END) => begin_named(r, AFTER_DAMAGED, n, FIRST_BIT),
         _ => mistaken(r, r.context),
     }
 }
@@ -914,6 +892,7 @@ fn mark_bit(damaged: &mut [u8], spot: Spot, text: &[u8], i: usize)
     }
 }
 
+// Three functions walk a text with a loop each: a closure in its place would hide from what they promise what it writes.
 // Marks the damaged bits of a text that is a plan with 1, at their places; those that have no place there are left out.
 pub fn mark(text: &[u8], damaged: &mut [u8])
     ensures { damaged.new ≡ marked text.now damaged.old }
