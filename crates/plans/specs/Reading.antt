@@ -451,11 +451,6 @@ is_between Between = true
 is_between InWord = false
 is_between InComment = false
 
-abbrev pub is_word : Scan → Bool
-is_word Between = false
-is_word InWord = true
-is_word InComment = false
-
 abbrev pub is_comment : Scan → Bool
 is_comment Between = false
 is_comment InWord = false
