@@ -410,11 +410,11 @@ fn the_limits_in_the_manual_are_those_of_the_table() {
         let said = &row.unwrap_or_else(|| panic!("no row for {state}"))[limits..];
         let expected = match ticks_of(state).as_slice() {
             // Calling: a tick leads on behind the last bit of CI, whenever that was drawn.
-            rows if rows.iter().all(|(least, condition, _)| *least == 0 && condition.starts_with("BEHIND_")) => {
+            rows if rows.iter().all(|(least, condition, _)| *least == 0 && condition.starts_with("Condition::Behind")) => {
                 "no limit".to_string()
             }
-            [(0, condition, next)] if condition == "TE_ELAPSED" => format!("Te: {next}"),
-            [(least, condition, next)] if condition == "ALWAYS" => format!("{} ms: {next}", with_comma(*least)),
+            [(0, condition, next)] if condition == "Condition::TeElapsed" => format!("Te: {next}"),
+            [(least, condition, next)] if condition == "Condition::Always" => format!("{} ms: {next}", with_comma(*least)),
             rows => panic!("{state}: {rows:?}"),
         };
         assert!(said.starts_with(&expected), "{state}: {said}, and not {expected}");
