@@ -410,12 +410,14 @@ fn put_blocks(octets: &[u8], out: &mut [u8]) -> Result<usize, Refusal>
     requires { length octets.now ≤ 40 }
     ensures { Meets (blocks_put octets.now out.old) result out.new }
 {
-    walk_blocks(octets)?;
-    if out.len() < octets.len() {
-        return Err(Refusal::ShortBuffer);
+    if are_blocks(octets) {
+        if out.len() < octets.len() {
+            return Err(Refusal::ShortBuffer);
+        }
+        copy(octets, out);
+        return Ok(octets.len());
     }
-    copy(octets, out);
-    Ok(octets.len())
+    Err(Refusal::BadBlock)
 }
 
 // The octets of a group, unpacked beside what is lent, since a refusal writes nothing there.

@@ -1,11 +1,10 @@
 -- Bits that stand in a row: the number that they make, and the past once they are heard, by induction over how many they are.
 -- Assumes nothing.
-use Prim.Native.Nat.{ℕ, zero, suc, ◌<◌, ◌≤◌, ◌+◌, ◌*◌, ◌/◌, ◌^◌}
+use Prim.Native.Nat.{ℕ, zero, suc, ◌<◌, ◌≤◌, ◌+◌, ◌*◌, ◌-◌, ◌/◌, ◌^◌}
 use native.Mathlib.Nat.{add-mul-div_right, div-div-eq-div-mul, mul_assoc}
-use native.Mathlib.Numerals.{add-one}
 use native.Mathlib.Omega.{arith}
 use lib.Pow.{pow_pos}
-use mathlib.Core.Path.{◌≡◌, refl, sym, ap, ap₂, ◌∙◌}
+use mathlib.Core.Path.{◌≡◌, refl, sym, ap, ap₂, subst, ◌∙◌}
 use mathlib.Core.Bool.{Bool, true}
 use mathlib.Core.List.{List, [], ◌∷◌}
 use borrow.Author.Tests.{lt-ltb, ltb-true, eq-eqb}
@@ -71,13 +70,6 @@ module _ (s : List ℕ) where
         let later = every_last k (i + 1) tests.1 in
         (ap₂ both tests.0 later.0, ap P (same_place (i + suc k) (i + 1 + k) (omega arith)) ∙ later.1)
 
-    every_more : (k i : ℕ) → every P (span s i k) ≡ true → P (get_or s (i + k) 0) ≡ true → every P (span s i (suc k)) ≡ true
-    unfolding span every both
-    every_more zero i hold last = simp (ap P (same_place i (i + 0) (omega arith)), last)
-    every_more (suc k) i hold last =
-        let tests = every_first k i hold in
-        ap₂ both tests.0 (every_more k (i + 1) tests.1 (ap P (same_place (i + 1 + k) (i + suc k) (omega arith)) ∙ last))
-
   pub value_small : (k i : ℕ) → every is_bit (span s i k) ≡ true → value (span s i k) < 2 ^ k
   unfolding span every
   value_small zero i are_bits = omega arith
@@ -99,7 +91,7 @@ module _ (s : List ℕ) where
       let later = all_ones k (i + 1) tests.1 (omega arith) in
       simp (eq-eqb (get_or s i 0) 1 one) later
 
--- bits that are read one behind the other, and the number that they make so far
+-- bits that are read from the last to the first, and the number that they make so far
 pub record Spanned (s : List ℕ) (i n number : ℕ) : Type 0 where
   pub bits : every is_bit (span s i n) ≡ true
   pub made : number ≡ value (span s i n)
@@ -109,11 +101,13 @@ module _ (s : List ℕ) where
   unfolding span every
   spanned_none i = record { bits = refl; made = refl }
 
-  pub spanned_more : (i n number : ℕ) → Spanned s i n number → get_or s (i + n) 0 ≤ 1 → Spanned s i (n + 1) (number + get_or s (i + n) 0 * 2 ^ n)
-  spanned_more i n number so_far bit = rw add-one (record {
-    bits = every_more s is_bit n i so_far.bits (lt-ltb (get_or s (i + n) 0) 2 (omega arith));
-    made = omega (arith, so_far.made, value_last s n i);
-  })
+  one_more : (i n number : ℕ) → get_or s i 0 ≤ 1 → Spanned s (i + 1) n number → Spanned s i (suc n) (number * 2 + get_or s i 0)
+  unfolding span every both
+  one_more i n number bit so_far = record { bits = ap₂ both (lt-ltb (get_or s i 0) 2 (omega arith)) so_far.bits; made = omega (arith, so_far.made) }
+
+  pub spanned_more : (i j n m number : ℕ) → j ≡ i + 1 → m ≡ suc n → get_or s i 0 ≤ 1 → Spanned s j n number → Spanned s i m (number * 2 + get_or s i 0)
+  spanned_more i j n m number next more bit so_far =
+      subst (λ (k : ℕ). Spanned s i k (number * 2 + get_or s i 0)) (sym more) (one_more i n number bit (subst (λ (k : ℕ). Spanned s k n number) next so_far))
 
   pub spanned_low : (i n number : ℕ) → n < 11 → Spanned s i n number → number < 2 ^ n × (2 ^ n < 1025)
   unfolding all_below both

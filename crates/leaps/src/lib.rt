@@ -86,11 +86,12 @@ fn ten_at(bits: &[u8], from: usize) -> Option<u32>
 {
     let ten = bits[from..].first_chunk::<10>()?;
     let mut number = 0;
-    for (k, &bit) in ten.iter().enumerate() {
+    for k in (0..10).rev() {
+        let bit = ten[k];
         if 1 < bit {
             return None;
         }
-        number += (bit as u32) << k;
+        number = number * 2 + bit as u32;
     }
     Some(number)
 }
@@ -110,9 +111,7 @@ fn is_stored(number: u32, past: u32, len: u8) -> bool
     ensures { result ≡ is_stored number past len }
 {
     number % 2 == 0
-        && FRAMED_0 < number
-        && len < MOST_OCTETS
-        && !octets::is_bad(framing::octet_heard(past))
+        && (FRAMED_0 < number && (len < MOST_OCTETS && !octets::is_bad(framing::octet_heard(past))))
 }
 
 // At an octet boundary: an octet in its frame, or the ten 1s that end a message.

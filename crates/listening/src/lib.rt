@@ -115,7 +115,7 @@ impl Message {
 fn agree(m: Message, last: Message) -> bool
     ensures { result ≡ agreed m last }
 {
-    octets::can_read(m.heard()) && m.kind == last.kind && octets::same(m.heard(), last.heard())
+    octets::can_read(m.heard()) && (m.kind == last.kind && octets::same(m.heard(), last.heard()))
 }
 
 // The span of a message of so many octets: ten bits for its sync, ten for each octet, and the ten 1s.
@@ -175,7 +175,7 @@ fn message_fits(kind: u8, len: u8) -> bool
 fn parts_fit(ear: Ear, kind: u8, len: u8, last_kind: u8, last_len: u8) -> bool
     ensures { result ≡ parts_in_range ear kind len last_kind last_len }
 {
-    framing::ear_fits(ear) && message_fits(kind, len) && message_fits(last_kind, last_len)
+    framing::ear_fits(ear) && (message_fits(kind, len) && message_fits(last_kind, last_len))
 }
 
 fn fits(rec: Listener) -> bool

@@ -49,21 +49,23 @@ const FRAME: usize = 10;
 
 const CJ_BITS: usize = 30;
 
-fn four(n: u16) -> u32
-    requires { n < 16 }
+fn four(n: u16, spread: &[u32; 16]) -> u32
+    requires n_bound { n < 16 }
+    requires spread_value { spread.now ≡ spreads }
     ensures { result ≡ get_or spreads n 0 }
 {
-    SPREAD[n as usize]
+    spread[n as usize]
 }
 
 // Ten bits, the lowest first.
-fn write_ten(out: &mut [u8], v: u16)
+fn write_ten(out: &mut [u8], v: u16, spread: &[u32; 16])
     requires in_bounds { 10 ≤ length out.old }
     requires v_bound { v < 1024 }
+    requires spread_value { spread.now ≡ spreads }
     ensures { out.new ≡ front (ten_bits v) out.old }
 {
-    let low = four(v % 16);
-    let high = four(v / 16 % 16);
+    let low = four(v % 16, spread);
+    let high = four(v / 16 % 16, spread);
     out[0] = (low % 256) as u8;
     out[1] = (low / 256 % 256) as u8;
     out[2] = (low / 65536 % 256) as u8;
@@ -92,17 +94,18 @@ fn sync_ten(kind: Kind) -> u16
 }
 
 // The group at the front of the octets: its category octet with the extension octets behind it. Answers how many octets that is.
-fn write_group(out: &mut [u8], octets: &[u8]) -> usize
+fn write_group(out: &mut [u8], octets: &[u8], spread: &[u32; 16]) -> usize
     requires octets_nonzero { 0 < length octets.now }
     requires octets_len_bound { length octets.now ≤ 64 }
     requires octets_in_bounds { 10 * length octets.now ≤ length out.old }
+    requires spread_value { spread.now ≡ spreads }
     ensures { Grouped octets.now out.old result out.new }
 {
     // no `for`: where the group ends is found while it is written, and a second pass would look for it
     let mut i: usize = 0;
     loop {
         let at = FRAME * i;
-        write_ten(&mut out[at..], octet_ten(octets[i]));
+        write_ten(&mut out[at..], octet_ten(octets[i]), spread);
         i += 1;
         if octets::group_ends(octets, i) {
             return i;
@@ -111,40 +114,43 @@ fn write_group(out: &mut [u8], octets: &[u8]) -> usize
 }
 
 // All octets, group by group, each into what is left behind the group before it.
-fn write_groups(out: &mut [u8], octets: &[u8])
+fn write_groups(out: &mut [u8], octets: &[u8], spread: &[u32; 16])
     requires octets_len_bound { length octets.now ≤ 64 }
     requires octets_in_bounds { 10 * length octets.now ≤ length out.old }
+    requires spread_value { spread.now ≡ spreads }
     ensures { out.new ≡ front (framed_all octets.now) out.old }
 {
     // no `for`: the writer of a group says how many octets it had
     let mut i: usize = 0;
     while i < octets.len() {
         let at = FRAME * i;
-        i += write_group(&mut out[at..], &octets[i..]);
+        i += write_group(&mut out[at..], &octets[i..], spread);
     }
 }
 
 // Ten 1s, ten sync bits, the octets.
-fn write_sequence(out: &mut [u8], kind: Kind, octets: &[u8])
+fn write_sequence(out: &mut [u8], kind: Kind, octets: &[u8], spread: &[u32; 16])
     requires octets_len_bound { length octets.now ≤ 64 }
     requires octets_in_bounds { 20 + 10 * length octets.now ≤ length out.old }
+    requires spread_value { spread.now ≡ spreads }
     ensures { out.new ≡ front (sequence kind octets.now) out.old }
 {
-    write_ten(out, TEN_ONES);
-    write_ten(&mut out[TEN..], sync_ten(kind));
-    write_groups(&mut out[PREAMBLE..], octets);
+    write_ten(out, TEN_ONES, spread);
+    write_ten(&mut out[TEN..], sync_ten(kind), spread);
+    write_groups(&mut out[PREAMBLE..], octets, spread);
 }
 
 // The sequence n times, each copy where the last one ended.
-fn write_copies(out: &mut [u8], kind: Kind, octets: &[u8], n: u16)
+fn write_copies(out: &mut [u8], kind: Kind, octets: &[u8], n: u16, spread: &[u32; 16])
     requires octets_len_bound { length octets.now ≤ 64 }
     requires octets_in_bounds { length (copies n (sequence kind octets.now)) ≤ length out.old }
+    requires spread_value { spread.now ≡ spreads }
     ensures { out.new ≡ front (copies n (sequence kind octets.now)) out.old }
 {
     let size = PREAMBLE + FRAME * octets.len();
     let mut at: usize = 0;
     for _ in 0..n {
-        write_sequence(&mut out[at..], kind, octets);
+        write_sequence(&mut out[at..], kind, octets, spread);
         at += size;
     }
 }
@@ -158,7 +164,7 @@ pub fn write(kind: Kind, octets: &[u8], n: u16, out: &mut [u8]) -> Result<usize,
     if out.len() < size {
         return Err(Refusal::ShortBuffer);
     }
-    write_copies(out, kind, octets, n);
+    write_copies(out, kind, octets, n, &SPREAD);
     Ok(size)
 }
 
@@ -169,6 +175,6 @@ pub fn write_cj(out: &mut [u8]) -> Result<usize, Refusal>
     if out.len() < CJ_BITS {
         return Err(Refusal::ShortBuffer);
     }
-    write_groups(out, &[0u8; 3]);
+    write_groups(out, &[0u8; 3], &SPREAD);
     Ok(CJ_BITS)
 }

@@ -3,7 +3,7 @@
 -- Assumes nothing.
 use native.Mathlib.Omega.{arith}
 use Prim.Native.Nat.{◌≤◌}
-use mathlib.Core.Path.{sym, ◌∙◌}
+use mathlib.Core.Path.{refl, sym, ◌∙◌}
 use lib.ListN.{length}
 use Rattle.std.proofs.lemmas.Result.{err_from_is_err_and}
 use Rattle.octets.proofs.Lists.{accepted_short}
@@ -43,7 +43,7 @@ returns-then-out-size c =
 pub write_copies-requires : goal.write_copies-requires
 write_copies-requires c =
     let given = c.args in
-    record { octets_len_bound = short (goal.at.write_copies-requires c).In_ok-test; octets_in_bounds = omega (arith, line_length given.kind given.octets.now given.n, c.if-out-size.false) }
+    record { octets_len_bound = short (goal.at.write_copies-requires c).In_ok-test; octets_in_bounds = omega (arith, line_length given.kind given.octets.now given.n, c.if-out-size.false); spread_value = refl }
 
 pub returns : goal.returns
 returns c =

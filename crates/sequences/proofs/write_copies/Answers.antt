@@ -39,7 +39,7 @@ slice_bounds-write_sequence-start c = omega (arith, within (goal.at.slice_bounds
 pub write_sequence-requires : goal.write_sequence-requires
 write_sequence-requires c =
     let left = lent_length (copies c.loop.counter (sequence c.args.kind c.args.octets.now)) c.args.out.now c.loop.out c.loop.at c.loop.invariant.1 (within (goal.at.write_sequence-requires c).At-loop) c.loop.invariant.2 in
-    record { octets_len_bound = c.requires.octets_len_bound; octets_in_bounds = omega (arith, room (goal.at.write_sequence-requires c).In-loop) }
+    record { octets_len_bound = c.requires.octets_len_bound; octets_in_bounds = omega (arith, room (goal.at.write_sequence-requires c).In-loop); spread_value = c.requires.spread_value }
 
 pub overflow_add-at : goal.overflow_add-at
 overflow_add-at c = omega (arith, room (goal.at.overflow_add-at c).In-loop, c.well_formed)

@@ -48,7 +48,7 @@ slice_bounds-write_ten-start c = omega (arith, long (goal.at.slice_bounds-write_
 
 pub write_ten-requires : goal.write_ten-requires
 write_ten-requires c =
-    record { in_bounds = omega (arith, left (goal.at.write_ten-requires c).At-loop-i); v_bound = omega (arith, c.octet_ten.ensures, c.type_inv.octets c.loop-i.i) }
+    record { in_bounds = omega (arith, left (goal.at.write_ten-requires c).At-loop-i); v_bound = omega (arith, c.octet_ten.ensures, c.type_inv.octets c.loop-i.i); spread_value = c.requires.spread_value }
 
 pub shape_of-out-then-group_ends : goal.shape_of-out-then-group_ends
 shape_of-out-then-group_ends c =

@@ -40,7 +40,7 @@ write_group-i-requires c =
     let octets = c.args.octets.now in
     let left = ap length (rest_of octets c.loop-i.i) ∙ length-drop c.loop-i.i octets in
     let room = rest_length octets c.args.out.now c.loop-i.out c.loop-i.i c.requires.octets_in_bounds c.loop-i.invariant.0 c.loop-i.invariant.1 in
-    record { octets_nonzero = omega arith; octets_len_bound = omega arith; octets_in_bounds = omega arith }
+    record { octets_nonzero = omega arith; octets_len_bound = omega arith; octets_in_bounds = omega arith; spread_value = c.requires.spread_value }
 
 pub overflow_add-i : goal.overflow_add-i
 overflow_add-i c = omega (arith, among (goal.at.overflow_add-i c).After-write_group-i)

@@ -16,10 +16,10 @@ use Rattle.sequences.proofs.write_sequence.Goals as goal
 
 pub write_ten-requires-2 : goal.write_ten-requires-2
 write_ten-requires-2 c =
-    record { in_bounds = search rules; v_bound = omega (arith, c.sync_ten.ensures, sync_small c.args.kind) }
+    record { in_bounds = search rules; v_bound = omega (arith, c.sync_ten.ensures, sync_small c.args.kind); spread_value = c.requires.spread_value }
 
 pub write_groups-requires : goal.write_groups-requires
-write_groups-requires c = record { octets_len_bound = search rules; octets_in_bounds = search rules }
+write_groups-requires c = record { octets_len_bound = search rules; octets_in_bounds = search rules; spread_value = search rules }
 
 pub returns : goal.returns
 returns c =
