@@ -2,33 +2,16 @@
 -- Assumes nothing.
 use Prim.Native.Nat.{ℕ, suc, ◌<◌, ◌≤◌, ◌+◌}
 use native.Mathlib.Numerals.{add-one}
-use mathlib.Core.Path.{◌≡◌, refl, ap, ◌∙◌}
-use mathlib.Core.Bool.{Bool, true, false, ◌&&◌}
+use mathlib.Core.Path.{◌≡◌, refl, ap}
+use mathlib.Core.Bool.{true, false}
 use mathlib.Core.List.{List, [], ◌∷◌}
 use borrow.Author.Tests.{eq-eqb, ne_eqb}
 use lib.Dec.{eqb}
-use lib.Pointwise.{pointwise}
 use lib.ListN.{length, drop, get_or, drop_of_length-le}
 use lib.Seq.{drop-cons}
 use Rattle.laws.specs.Logic.{both}
 use Rattle.laws.specs.Tests.{same_list}
 use Rattle.laws.proofs.Logic.{both_neither}
-
--- the library compares slices by this test, element by element
-and_both : (a b : Bool) → a && b ≡ both a b
-unfolding both
-and_both true b = refl
-and_both false b = refl
-
-pub same_pointwise : (xs ys : List ℕ) → pointwise eqb xs ys ≡ same_list xs ys
-unfolding same_list
-same_pointwise [] [] = refl
-same_pointwise [] (y ∷ ys) = refl
-same_pointwise (x ∷ xs) [] = refl
-same_pointwise (x ∷ xs) (y ∷ ys) = ap (λ t. eqb x y && t) (same_pointwise xs ys) ∙ and_both (eqb x y) (same_list xs ys)
-
-pub same_by_library : (xs ys : List ℕ) (t : Bool) → t ≡ pointwise eqb xs ys → t ≡ same_list xs ys
-same_by_library xs ys t e = e ∙ same_pointwise xs ys
 
 -- lists of different lengths are not the same
 pub same_lengths : (xs ys : List ℕ) → (length xs ≡ length ys → ⊥) → same_list xs ys ≡ false

@@ -1,45 +1,38 @@
--- Two words have the same letters where std says that they are the same but for upper and lower case.
+-- Laws about words in lower case, one letter at a time.
 -- Assumes nothing.
-use Rattle.std.proofs.Common.{ℕ, ◌≡◌, ◌+◌, ◌∷◌, [], List, Bool, true, false, map, cond, leb, ltb, refl, sym, ap, ap₂, ◌∙◌, arith}
-use Rattle.std.specs.Prelude.{◌↔◌, IsTrue}
-use Rattle.std.specs.Char.{to_ascii_lowercase}
-use borrow.Author.Tests.{eq-eqb, lt-ltb, le-ltb, leb-true, leb-false}
-use Rattle.laws.specs.Logic.{when, both}
+use Prim.Native.Nat.{ℕ, ◌<◌, ◌≤◌, ◌+◌}
+use native.Mathlib.Omega.{arith}
+use mathlib.Core.Path.{◌≡◌, sym, ◌∙◌}
+use mathlib.Core.Bool.{true, false}
+use mathlib.Core.List.{List, map}
+use lib.ListN.{length, get_or, drop, length-map, get_or-map}
+use Rattle.laws.specs.Logic.{when}
 use Rattle.laws.specs.Tests.{same_list}
-use Rattle.laws.proofs.Logic.{clash}
-use Rattle.laws.proofs.Computed.{same_list_lem}
+use Rattle.laws.proofs.Same.{same_lengths, same_on, same_stop, same_end}
 use Rattle.names.specs.Names.{lower, same_letters}
 
-taken : {A : Type 0} (t : Bool) (x y : A) → when t x y ≡ cond t x y
+lowered_at : (word : List ℕ) (i : ℕ) → get_or (map lower word) i 0 ≡ lower (get_or word i 0)
 unfolding when
-taken true x y = refl
-taken false x y = refl
+lowered_at word i = get_or-map lower word i 0
 
-up_to_by : (b n : ℕ) (t : Bool) → leb b n ≡ t → t ≡ ltb b (n + 1)
-up_to_by b n true is_leb = sym (lt-ltb b (n + 1) (omega (arith, leb-true b n is_leb)))
-up_to_by b n false is_leb = sym (le-ltb b (n + 1) (omega (arith, leb-false b n is_leb)))
+module _ (name word : List ℕ) where
+  pub letters_apart : (length word ≡ length name → ⊥) → same_letters word name ≡ false
+  letters_apart apart = same_lengths (map lower word) (map lower name) (λ e. apart (sym (length-map word lower) ∙ e ∙ length-map name lower))
 
-up_to : (b n : ℕ) → leb b n ≡ ltb b (n + 1)
-up_to b n = up_to_by b n (leb b n) refl
+  -- what is left of both from a place on
+  module _ (i : ℕ) (same : length word ≡ length name) where
+    pub letters_end : length word ≤ i → same_list (drop i (map lower word)) (drop i (map lower name)) ≡ true
+    letters_end past = same_end (map lower word) (map lower name) i (omega (arith, past, length-map word lower)) (omega (arith, past, same, length-map name lower))
 
-letter : (b : ℕ) → lower b ≡ to_ascii_lowercase b
-letter b = taken (ltb b 65) b _ ∙ ap (cond (ltb b 65) b) (taken (leb b 90) (b + 32) b ∙ ap (λ (t : Bool). cond t (b + 32) b) (up_to b 90))
+    module _ (inside : i < length word) {x y : ℕ} (of_word : x ≡ lower (get_or word i 0)) (of_name : y ≡ lower (get_or name i 0)) where
+      in_word : i < length (map lower word)
+      in_word = omega (arith, inside, length-map word lower)
 
-letters : (word : List ℕ) → map lower word ≡ map to_ascii_lowercase word
-letters [] = refl
-letters (b ∷ word) = ap₂ (λ (x : ℕ) (xs : List ℕ). x ∷ xs) (letter b) (letters word)
+      in_name : i < length (map lower name)
+      in_name = omega (arith, inside, same, length-map name lower)
 
-same_itself : (xs : List ℕ) → same_list xs xs ≡ true
-unfolding same_list both
-same_itself [] = refl
-same_itself (x ∷ xs) = simp (eq-eqb x x refl, same_itself xs)
+      pub letters_on : x ≡ y → same_list (drop i (map lower word)) (drop i (map lower name)) ≡ same_list (drop (i + 1) (map lower word)) (drop (i + 1) (map lower name))
+      letters_on e = same_on (map lower word) (map lower name) i in_word in_name (lowered_at word i ∙ sym of_word ∙ e ∙ of_name ∙ sym (lowered_at name i))
 
--- a test of two lists is the one that there is
-tested : (r s : Bool) (xs ys : List ℕ) → same_list xs ys ≡ s → (IsTrue r ↔ (xs ≡ ys)) → r ≡ s
-tested true true xs ys is_same test = refl
-tested false false xs ys is_same test = refl
-tested true false xs ys is_same test = clash (sym (rw (← test.0 refl) (same_itself xs)) ∙ is_same)
-tested false true xs ys is_same test = test.1 (same_list_lem xs ys (rw is_same tt))
-
-pub same_as_tested : (r : Bool) (a b : List ℕ) → (IsTrue r ↔ (map to_ascii_lowercase a ≡ map to_ascii_lowercase b)) → r ≡ same_letters a b
-same_as_tested r a b test = tested r _ _ _ refl test ∙ sym (ap₂ same_list (letters a) (letters b))
+      pub letters_stop : (x ≡ y → ⊥) → same_list (drop i (map lower word)) (drop i (map lower name)) ≡ false
+      letters_stop differ = same_stop (map lower word) (map lower name) i in_word in_name (λ e. differ (of_word ∙ sym (lowered_at word i) ∙ e ∙ lowered_at name i ∙ sym of_name))

@@ -3,7 +3,7 @@
 
 ghost use Rattle.std.specs.Prelude.{◌≡◌};
 ghost use Rattle.printing.specs.Page.{typed};
-ghost use Rattle.names.specs.Names.{same_letters, names, named, named_by, names_of};
+ghost use Rattle.names.specs.Names.{lower, same_letters, names, named, named_by, names_of};
 ghost use Rattle.names.specs.Inner.{lent, entries, shown};
 
 use items::Item;
@@ -82,11 +82,34 @@ const NAMES: [(&[u8], u8, u8); 41] = [
     (b"digital-network", ACCESS, 2),
 ];
 
-// Whether a word is the name, in upper or in lower case.
+// A letter in lower case; every other byte as it is.
+#[tactic(auto, using(laws::proofs::Cases::cases), unfolding(laws::specs::Logic::when))]
+fn lower(b: u8) -> u8
+    ensures { result ≡ lower b }
+{
+    if b < b'A' {
+        b
+    } else if b <= b'Z' {
+        b + 32
+    } else {
+        b
+    }
+}
+
+// Whether a word is the name, in upper or in lower case. Letter by letter and not by the library's comparison of words: by that its two
+// wrong programs, of one letter for all and of small letters, could not be told from right ones.
 fn is_name(name: &[u8], word: &[u8]) -> bool
     ensures { result ≡ same_letters word.now name.now }
 {
-    word.eq_ignore_ascii_case(name)
+    if word.len() != name.len() {
+        return false;
+    }
+    for i in 0..word.len() {
+        if lower(word[i]) != lower(name[i]) {
+            return false;
+        }
+    }
+    true
 }
 
 // What a word names by some names.
