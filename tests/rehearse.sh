@@ -3,7 +3,7 @@
 # with NAME.timeline, as a file and through a pipe in pieces of odd sizes, and does the same with the plan that stands above
 # each ladder; then on the same call in other words; then on texts that are wrong, each with the one line that it must get;
 # then on calls with blocks, which the answerer tells in words, or which get one line; then on calls of strangers, whose CM
-# is sent as it is given, or gets one line; then on calls whose CI is damaged or names another function; then on random plans, on every call cut off at every byte and on random bytes,
+# is sent as it is given, or gets one line; then on calls whose CI is damaged or names another function, or whose CI or CM is heard without octets; then on random plans, on every call cut off at every byte and on random bytes,
 # which must get a plan and a ladder or one line, and an end of the program that is no crash. Prints what differs; exits
 # with 1 on a difference and with 2 where there is nothing to run.
 set -uo pipefail
@@ -138,6 +138,14 @@ tells() {
         below && / (block [0-9]+:|its field )/ { field = 1 }
         below && field { if (length($0) > 85) print "a row of " length($0) " columns"; sub(/^ */, ""); print }
     ' >"$work/printed"
+    compare "$1" "$work/expected" "${PIPESTATUS[0]}"
+}
+
+# stands NAME LINES ROW: a call with these lines behind it, and a row that must stand in its ladder, blank for blank.
+stands() {
+    text "$whole$2"
+    printf '%s\n' "$3" >"$work/expected"
+    "$program" <"$work/input" | grep -x -F "$3" >"$work/printed"
     compare "$1" "$work/expected" "${PIPESTATUS[0]}"
 }
 
@@ -510,7 +518,13 @@ calls 'the first CI is damaged' "${whole}damaged caller 327" 'calling CI data C1
 calls 'the second CI is damaged' "${whole}damaged caller 357" 'calling CI data C1' 'CI data C1 hears' 'CI fax-sent 81 hears' 'CI data C1 hears'
 calls 'each CI is damaged in the same way' "${whole}damaged caller 327 357 387" 'calling CI data C1' 'CI fax-sent 81 hears'
 calls 'the sync of each CI is damaged' "${whole}damaged caller 312 342 372" 'calling CI data C1'
+calls 'each CI has the octet 0 by damage, which no CI has: none repeats another' "${whole}damaged caller 321 327 328 351 357 358 381 387 388" \
+    'calling CI data C1' 'CI 00 hears' 'CI 00 hears' 'CI 00 hears'
 calls 'what is refused parts two CIs that are alike' "${whole}damaged caller 350" 'calling CI data C1' 'CI data C1 hears' 'CI data C1 hears'
+
+# What is heard without octets stands as far right as what has some.
+stands 'a CI without octets' 'damaged caller 320 322 323 324 325 326' "$(printf ' 1096%78sCI hears' '')"
+stands 'a CM without octets' 'damaged caller 710 712 713 714 715 716' "$(printf ' 2396%78sCM hears' '')"
 
 # The first on period is from bit 300, at 1000, to bit 449, and the next begins with bit 900. The caller hears ANSam one bit behind the time of
 # the answer: before the third sequence is sent, between two, within one, behind the last of an on period, in silence, and with the first bit of the

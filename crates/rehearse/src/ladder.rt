@@ -115,11 +115,13 @@ fn put_offer(name: Text, offer: Offer) -> Text {
     text
 }
 
-// A menu, or a CI: its name, what it offers, and its octets.
+// A menu, or a CI: its name, what it offers, and its octets, set apart, where it has some.
 fn menu_text(name: &str, octets: &[u8]) -> Text {
-    put_offer(Text::of(name), offer_in(octets))
-        .put(b' ')
-        .put_octets(octets)
+    let offered = put_offer(Text::of(name), offer_in(octets));
+    if octets.is_empty() {
+        return offered;
+    }
+    offered.put(b' ').put_octets(octets)
 }
 
 // How long the piece is that fills a row with the front of a text, with the blanks around it: up to the last blank that it has room for.

@@ -74,10 +74,11 @@ impl Told {
         }
     }
 
-    // What the next report may repeat: a menu that is not agreed is another each time, and so is a CI of several octets.
+    // What the next report may repeat: a menu that is not agreed is another each time, and so is a CI of several octets, or of the octet 0,
+    // which no CI has.
     fn repeatable(self) -> Option<Told> {
         match self {
-            Told::Menu | Told::Ci(None) => None,
+            Told::Menu | Told::Ci(None | Some(0)) => None,
             _ => Some(self),
         }
     }
