@@ -51,7 +51,8 @@ fn words(text: &str) -> impl Iterator<Item = &str> {
 fn scope(text: &str) -> Scope {
     let mut found = Scope::new();
     for line in text.lines() {
-        let line = line.trim_start_matches("ghost ").trim_end_matches(';');
+        // What an `impl` brings in stands further right.
+        let line = line.trim_start().trim_start_matches("ghost ").trim_end_matches(';');
         let Some((krate, rest)) = line.strip_prefix("use Rattle.").and_then(|rest| rest.split_once(".specs.")) else { continue };
         if let Some((module, names)) = rest.split_once(".{") {
             for name in names.trim_end_matches('}').split(", ") {
@@ -106,18 +107,18 @@ fn definitions() -> BTreeMap<Name, BTreeSet<Name>> {
     all
 }
 
-/// What the promises of the public functions name, and what the theorems of demands say.
+/// What the promises of the public functions and methods and of conversions name, and what the theorems of demands say.
 fn believed(all: &BTreeMap<Name, BTreeSet<Name>>) -> BTreeSet<Name> {
     let mut found: BTreeSet<Name> = all.keys().filter(|(krate, _, _)| krate == "demands").cloned().collect();
     for krate in crates().iter().filter(|krate| !PROGRAMS.contains(&krate.as_str())) {
         let text = read(&root().join("crates").join(krate).join("src/lib.rt"));
         let scope = scope(&text);
         let mut public = false;
-        for line in text.lines() {
+        for line in text.lines().map(str::trim_start) {
             if line.starts_with("fn ") || line.starts_with("pub fn ") || line.starts_with("pub extern ") {
                 public = line.starts_with("pub ");
             }
-            if public && line.trim_start().starts_with("ensures") {
+            if public && line.starts_with("ensures") || line.starts_with("ghost from_gives") {
                 found.extend(words(line).filter_map(|word| meant(word, &scope)));
             }
         }
@@ -159,7 +160,10 @@ fn tied() -> BTreeSet<Name> {
 #[test]
 fn no_public_promise_rests_on_an_inner_definition() {
     let all = definitions();
-    let rested = rested_on(believed(&all), &all);
+    let first = believed(&all);
+    let by_a_method_alone = ("printing".to_string(), "Page".to_string(), "hex_octet".to_string());
+    assert!(first.contains(&by_a_method_alone), "{by_a_method_alone:?} is what a promise names, and was not found to be");
+    let rested = rested_on(first, &all);
     for (krate, module, name) in [("sequences", "Line", "framed"), ("framing", "Framing", "hunted"), ("steps", "Table", "rows")] {
         let name = (krate.to_string(), module.to_string(), name.to_string());
         assert!(rested.contains(&name), "{name:?} is what a promise rests on, and was not found to be");
