@@ -3,17 +3,13 @@
 use Prim.Native.Nat.{ℕ, suc, ◌<◌, ◌≤◌, ◌+◌, ◌-◌}
 use native.Mathlib.Numerals.{add-one}
 use native.Mathlib.Omega.{arith}
-use mathlib.Core.Path.{◌≡◌, refl, sym, ap, ◌∙◌}
-use mathlib.Core.Bool.{Bool, true, false, cond}
+use mathlib.Core.Path.{◌≡◌, ap, ◌∙◌}
+use mathlib.Core.Bool.{true, false}
 use mathlib.Core.List.{List, [], ◌∷◌}
 use borrow.Author.Tests.{lt-ltb, eq-eqb, ne_eqb, eqb-true}
 use lib.Dec.{ltb, eqb}
 use lib.ListN.{length, take, drop, get_or, length-take, drop_of_length-le}
 use lib.Seq.{drop-cons}
-use Rattle.std.specs.Prelude.{Option, Some, Ok, not}
-use Rattle.std.specs.List.{position, position_from, prefix_len}
-use Rattle.std.proofs.lemmas.Iterator.Adapters.{position_from-zero}
-use Rattle.std.proofs.lemmas.List.Recursion.{is_position_or_len}
 use Rattle.laws.specs.Logic.{when}
 use Rattle.laws.proofs.Logic.{either_way}
 use Rattle.octets.specs.declared.Purpose.TheVariants.{Reading}
@@ -23,7 +19,7 @@ use Rattle.octets.specs.Octets.{category}
 use Rattle.octets.specs.Lists.{list_fault, until_category}
 use Rattle.octets.proofs.Lists.{accepted_short}
 use Rattle.refusals.proofs.Numbers.{number_some}
-use Rattle.menus.specs.Groups.{says_found, Looked, place, nowhere, refusal, opens_group, first_group, looked, front_part, part_at, onward, part_start}
+use Rattle.menus.specs.Groups.{Looked, place, nowhere, refusal, opens_group, first_group, looked, front_part, part_at, onward, part_start}
 
 -- one octet at a time
 module _ (t : ℕ) (s : List ℕ) (i : ℕ) where
@@ -39,29 +35,15 @@ module _ (t : ℕ) (s : List ℕ) (i : ℕ) where
   unfolding first_group
   group_none h = simp (drop_of_length-le s h)
 
--- the first octet that opens a group of the tag is the group's place
-place_by : (test : Bool) (i : ℕ) (found : Option ℕ) (later : Looked) → says_found (Ok found) ≡ later → says_found (Ok (cond test (Some i) found)) ≡ when test (place i) later
-unfolding when
-place_by true i found later e = refl
-place_by false i found later e = e
+-- and a group's extension octets
+module _ (s : List ℕ) (i : ℕ) (there : i < length s) where
+  pub until_here : category (get_or s i 0) ≡ true → until_category (drop i s) ≡ 0
+  unfolding until_category when
+  until_here e = simp (drop-cons s i 0 there, e)
 
-place_from : (t i : ℕ) (s : List ℕ) → says_found (Ok (position_from (opens_group t) i s)) ≡ first_group t i s
-unfolding first_group
-place_from t i [] = refl
-place_from t i (b ∷ s) = place_by (opens_group t b) i (position_from (opens_group t) (i + 1) s) (first_group t (i + 1) s) (place_from t (i + 1) s)
-
-pub first_position : (t : ℕ) (s : List ℕ) → says_found (Ok (position (opens_group t) s)) ≡ first_group t 0 s
-first_position t s = ap (λ (found : Option ℕ). says_found (Ok found)) (position_from-zero (opens_group t) s) ∙ place_from t 0 s
-
--- the extension octets in front are those before the first category octet
-before_by : (test : Bool) (n : ℕ) → when test 0 (suc n) ≡ cond test 0 (1 + n)
-unfolding when
-before_by true n = refl
-before_by false n = omega arith
-
-pub extensions_before : (s : List ℕ) → prefix_len (λ b. not (category b)) s ≡ until_category s
-unfolding until_category
-extensions_before s = sym (is_position_or_len until_category category refl (λ b s. before_by (category b) (until_category s)) s)
+  pub until_on : category (get_or s i 0) ≡ false → until_category (drop i s) ≡ suc (until_category (drop (i + 1) s))
+  unfolding until_category when
+  until_on e = simp (drop-cons s i 0 there, e, add-one)
 
 -- a place below m, if it is one
 abbrev pub Below : ℕ → Looked → Type 0

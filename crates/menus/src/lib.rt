@@ -1,10 +1,9 @@
 // Menus: looking for a group, its part of the message, what a menu offers, one item asked for alone, and which PCM options of two ends pair.
 #![tactic(auto, using(laws::proofs::Cases::cases), unfolding(laws::specs::Logic::when, laws::specs::Logic::both))]
 
-ghost use Rattle.std.specs.Prelude.{◌≡◌, false, ◌+◌, ◌<◌, ◌≤◌, length, drop, not, position};
-ghost use Rattle.std.specs.List.{prefix_len};
-ghost use Rattle.octets.specs.Octets.{category};
-ghost use Rattle.menus.specs.Groups.{says_found, opens_group, looked, part_at, onward, part_start, group_of, options_in};
+ghost use Rattle.std.specs.Prelude.{◌≡◌, false, ◌+◌, ◌<◌, ◌≤◌, length, drop};
+ghost use Rattle.octets.specs.Lists.{until_category};
+ghost use Rattle.menus.specs.Groups.{says_found, opens_group, first_group, looked, part_at, onward, part_start, group_of, options_in};
 ghost use Rattle.menus.specs.Offer.{pcm_counted, offer_of, says_read, menu_read};
 ghost use Rattle.menus.specs.Pcm.{paired};
 ghost use Rattle.menus.specs.Asking.{answer, says_asked, asked};
@@ -51,11 +50,17 @@ fn opens_group(b: u8, tag: u8) -> bool
     octets::is_category(b) && octets::tag_of(b) == tag
 }
 
-// The first group of a tag, where the octets are readable.
+// The first group of a tag, where the octets are readable. A loop and no `position`: by that its wrong programs, of a place and of none, could
+// not be told from right ones.
 fn first_group(octets: &[u8], tag: u8) -> Option<usize>
-    ensures { result ≡ position (opens_group tag) octets.now }
+    ensures { says_found (Ok result) ≡ first_group tag 0 octets.now }
 {
-    octets.iter().position(|b| opens_group(*b, tag))
+    for (i, b) in octets.iter().enumerate() {
+        if opens_group(*b, tag) {
+            return Some(i);
+        }
+    }
+    None
 }
 
 // Looks for a tag: the place of its first group, nothing, or why the message cannot be read.
@@ -66,14 +71,16 @@ pub fn find(octets: &[u8], tag: u8) -> Result<Option<usize>, Refusal>
     Ok(first_group(octets, tag))
 }
 
-// How many octets stand before the next category octet: the extension octets of the group before them.
+// How many octets stand before the next category octet: the extension octets of the group before them. A loop, as in `first_group`.
 fn extensions_in(octets: &[u8]) -> usize
-    ensures { (result ≡ prefix_len (λ b. not (category b)) octets.now) × (result ≤ length octets.now) }
+    ensures { (result ≡ until_category octets.now) × (result ≤ length octets.now) }
 {
-    octets
-        .iter()
-        .take_while(|b| !octets::is_category(**b))
-        .count()
+    for (i, b) in octets.iter().enumerate() {
+        if octets::is_category(*b) {
+            return i;
+        }
+    }
+    octets.len()
 }
 
 // The part of a place: the category octet there and its extension octets, of the lent message itself; elsewhere the empty part.
@@ -147,14 +154,11 @@ pub fn read(octets: &[u8]) -> Result<Offer, Refusal>
     Ok(read_offer(octets))
 }
 
-// The answer of a menu that does not have the item.
-fn not_offered(looked: usize) -> Result<Asked, Refusal>
-    ensures { says_asked result ≡ answer false looked }
+// An answer that is no refusal.
+fn answered(offered: bool, looked: usize) -> Result<Asked, Refusal>
+    ensures { says_asked result ≡ answer offered looked }
 {
-    Ok(Asked {
-        offered: false,
-        looked,
-    })
+    Ok(Asked { offered, looked })
 }
 
 // Within the modulation group, behind its category octet: the octet that holds the item decides, or the next category octet before it.
@@ -165,12 +169,12 @@ fn decide(octets: &[u8], opening: u8, from: usize, place: ItemPlace) -> Result<A
     let mut looked = from;
     for _ in 0..place.octet {
         if octets.len() <= looked {
-            return not_offered(looked);
+            return answered(false, looked);
         }
         b = octets[looked];
         looked += 1;
         if octets::is_category(b) {
-            return not_offered(looked);
+            return answered(false, looked);
         }
         if octets::is_bad(b) {
             return Err(Refusal::BadOctet);
@@ -198,7 +202,7 @@ fn walk(octets: &[u8], place: ItemPlace) -> Result<Asked, Refusal>
             return Err(Refusal::BadOctet);
         }
     }
-    not_offered(octets.len())
+    answered(false, octets.len())
 }
 
 // The number of octets and the first one, before the walk.

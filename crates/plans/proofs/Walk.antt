@@ -1,7 +1,6 @@
 -- Laws about texts, one byte at a time.
 -- Assumes nothing.
-use Rattle.std.proofs.Common.{◌≡◌, ℕ, suc, ◌+◌, ◌<◌, ◌≤◌, Bool, true, false, cond, not, eqb, leb, min, Some, None, List, [], ◌∷◌, ◌++◌, length, Option, Some, None, get_or, drop, sym, refl, ap, ◌∙◌, add-one, arith, drop_of_length-le, drop-cons, eq-eqb, ne_eqb, eqb-true, leb-true, leb-false}
-use Rattle.std.specs.List.{prefix_len}
+use Rattle.std.proofs.Common.{◌≡◌, ℕ, suc, ◌+◌, ◌<◌, ◌≤◌, Bool, true, false, eqb, leb, min, Some, None, List, [], ◌∷◌, ◌++◌, length, Option, Some, None, get_or, drop, sym, refl, ap, ◌∙◌, add-one, arith, drop_of_length-le, drop-cons, eq-eqb, ne_eqb, eqb-true, leb-true, leb-false}
 use Rattle.laws.specs.Logic.{when, either}
 use Rattle.plans.specs.declared.Reading.{Reading}
 use Rattle.plans.specs.declared.Scan.{Scan}
@@ -13,15 +12,19 @@ pub feeds_no_word : (scan : Scan) (b : ℕ) → eqb b line_feed ≡ true → beg
 unfolding when either
 feeds_no_word scan b feed = rw (eqb-true b line_feed feed)
 
--- the word at the front is what stands before the first byte that is in none
-pub word_prefix : (text : List ℕ) → prefix_len (λ b. not (ends_word b)) text ≡ word_length text
-unfolding word_length when
-word_prefix [] = refl
-word_prefix (b ∷ rest) = go (ends_word b) (word_prefix rest)
-  where
-    go : {n m : ℕ} (t : Bool) → n ≡ m → cond (not t) (1 + n) 0 ≡ when t 0 (suc m)
-    go true same = refl
-    go false same = omega (arith, same)
+-- the word at the front, one byte at a time
+module _ (text : List ℕ) (i : ℕ) where
+  pub word_ends : i < length text → ends_word (get_or text i 0) ≡ true → word_length (drop i text) ≡ 0
+  unfolding word_length when
+  word_ends there ends = simp (drop-cons text i 0 there, ends)
+
+  pub word_on : i < length text → ends_word (get_or text i 0) ≡ false → word_length (drop i text) ≡ suc (word_length (drop (i + 1) text))
+  unfolding word_length when
+  word_on there goes_on = simp (drop-cons text i 0 there, goes_on, add-one)
+
+  pub word_past : length text ≤ i → word_length (drop i text) ≡ 0
+  unfolding word_length
+  word_past past = simp (drop_of_length-le text past)
 
 -- a place past the end is the end
 pub drop_within : (text : List ℕ) (at from : ℕ) → from ≡ min at (length text) → drop from text ≡ drop at text

@@ -16,12 +16,11 @@
 // Words stand apart by blanks, tabs and commas, in upper or lower case; # begins a comment. The lines may come in any order.
 #![tactic(auto, using(laws::proofs::Cases::cases, printing::proofs::Pages::typed_joined, crate::proofs::Numbers::decimal_typed), unfolding(laws::specs::Logic::when, laws::specs::Logic::both, laws::specs::Logic::either, printing::specs::Page::typed, names::specs::Bytes::bytes, crate::specs::Inner::lacking, crate::specs::Text::octet, crate::specs::Plain::function_text, crate::specs::Plain::called_text, crate::specs::Plain::caller_text, crate::specs::Plain::damage_text, crate::specs::Plain::plain, crate::specs::Reading::number_word, crate::specs::Reading::say, crate::specs::Reading::lacks_call, crate::specs::Reading::planning, crate::specs::Reading::cadenced, crate::specs::Reading::answering, crate::specs::Reading::part_word, crate::specs::Reading::is_said, crate::specs::Reading::read_word, crate::specs::Reading::record_of, crate::specs::Reading::record_mistake, crate::specs::Reading::with_home, crate::specs::Reading::finish_end, crate::specs::Reading::finish_line, crate::specs::Reading::missing, crate::specs::Reading::scan_after))]
 
-ghost use Rattle.std.specs.Prelude.{not, Some, ◌≡◌, ◌+◌, ◌-◌, ◌%◌, ◌<◌, ◌≤◌, List, [], ◌++◌, length, take, drop, set, ◌==◌, slice_index};
-ghost use Rattle.std.specs.List.{prefix_len};
+ghost use Rattle.std.specs.Prelude.{Some, ◌≡◌, ◌+◌, ◌-◌, ◌%◌, ◌<◌, ◌≤◌, List, [], ◌++◌, length, take, drop, set, ◌==◌, slice_index};
 ghost use Rattle.laws.specs.Logic.{when, both};
 ghost use Rattle.laws.specs.Front.{front};
 ghost use Rattle.printing.specs.Page.{typed};
-ghost use Rattle.plans.specs.Text.{ends_word, with_digit, number, hex_value, octet, lines_before, word_at};
+ghost use Rattle.plans.specs.Text.{ends_word, word_length, with_digit, number, hex_value, octet, lines_before, word_at};
 ghost use Rattle.plans.specs.Reading.{mistaken, going, place, set_at, store, added, say, first_of, is_said, begin_named, behind_name, lacks_call, planning, cadenced, answering, all_said, nothing_yet, part_word, name_word, is_on, is_answer, at_number, at_octets, number_word, listed, one_of, read_word, modes_of, record_of, record_mistake, with_home, finish_end, finish_line, between, scan_after, begins_word, read_byte, fresh, finished, read_text, bit_place, marked_bit, marked, octet_at, octets_in, call_not_had, default_on, default_off, default_answer};
 ghost use Rattle.plans.specs.Plain.{function_text, functions_text, wants_text, end_text, entry_front, octets_text, bits_text, damage_text, decimal, caller_text, called_text, head_text, cadence_text, plain};
 ghost use Rattle.plans.specs.Inner.{told_text, lacking};
@@ -242,11 +241,17 @@ fn begins_word(scan: Scan, b: u8) -> bool
     }
 }
 
-// How long the word at the front of a text is.
+// How long the word at the front of a text is. A loop and no `take_while`: by that the wrong program that takes one byte more could not be told
+// from a right one.
 fn word_length(text: &[u8]) -> usize
-    ensures { (result ≡ prefix_len (λ b. not (ends_word b)) text.now) × (result ≤ length text.now) }
+    ensures { (result ≡ word_length text.now) × (result ≤ length text.now) }
 {
-    text.iter().take_while(|b| !ends_word(**b)).count()
+    for (i, b) in text.iter().enumerate() {
+        if ends_word(*b) {
+            return i;
+        }
+    }
+    text.len()
 }
 
 // The word at a place, of the text itself; empty where there is none.

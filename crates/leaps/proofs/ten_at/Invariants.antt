@@ -1,7 +1,7 @@
 -- `leaps::ten_at` meets its contract. Invariant: the bytes from `from + k` up to the tenth are bits, and `number` is what they make; so at
 -- k = 0 all ten are.
 -- Assumes nothing.
-use Prim.Native.Nat.{◌≤◌, ◌+◌, ◌-◌}
+use Prim.Native.Nat.{◌+◌, ◌-◌}
 use Rattle.leaps.proofs.Spans.{Spanned}
 use Rattle.leaps.proofs.ten_at.Given as goal
 

@@ -13,12 +13,12 @@ loop-init c = let all : c.args.place.octet - 0 ≡ c.args.place.octet = omega ar
 pub returns-then-octets-looked : goal.returns-then-octets-looked
 returns-then-octets-looked c =
     let args = c.args in
-    c.not_offered.ensures ∙ sym (c.loop.invariant ∙ decided_end args.place.bit.0 c.loop.b args.octets.now c.loop.looked (args.place.octet - c.loop.counter) (omega arith) (omega arith))
+    c.answered.ensures ∙ sym (c.loop.invariant ∙ decided_end args.place.bit.0 c.loop.b args.octets.now c.loop.looked (args.place.octet - c.loop.counter) (omega arith) (omega arith))
 
 pub returns-then-is_category : goal.returns-then-is_category
 returns-then-is_category c =
     let args = c.args in
-    c.not_offered-then-is_category.ensures ∙ sym (c.loop.invariant ∙ decided_short args.place.bit.0 c.loop.b args.octets.now c.loop.looked (args.place.octet - c.loop.counter) (omega arith) (omega arith) (sym c.is_category.ensures ∙ c.if-is_category.true))
+    c.answered-then-is_category.ensures ∙ sym (c.loop.invariant ∙ decided_short args.place.bit.0 c.loop.b args.octets.now c.loop.looked (args.place.octet - c.loop.counter) (omega arith) (omega arith) (sym c.is_category.ensures ∙ c.if-is_category.true))
 
 pub returns-then-is_bad : goal.returns-then-is_bad
 returns-then-is_bad c =

@@ -1,9 +1,8 @@
 -- `menus::find` meets its contract: the test decides, and where it accepts the first group of the tag does.
 -- Assumes nothing.
-use Rattle.std.proofs.Common.{ℕ, Option, Ok, sym, ap, ◌∙◌}
+use Rattle.std.proofs.Common.{sym, ◌∙◌}
 use Rattle.std.proofs.lemmas.Result.{err_from_is_err_and}
-use Rattle.menus.specs.Groups.{says_found}
-use Rattle.menus.proofs.Looking.{first_position, looked_refused, looked_read}
+use Rattle.menus.proofs.Looking.{looked_refused, looked_read}
 use Rattle.menus.proofs.find.Goals as goal
 
 pub returns-in_err-test : goal.returns-in_err-test
@@ -14,4 +13,4 @@ returns-in_err-test c =
 pub returns : goal.returns
 returns c =
     let args = c.args in
-    ap (λ (found : Option ℕ). says_found (Ok found)) c.first_group.ensures ∙ first_position args.tag args.octets.now ∙ sym (looked_read args.octets.now args.tag (sym c.in_ok-test.ensures))
+    c.first_group.ensures ∙ sym (looked_read args.octets.now args.tag (sym c.in_ok-test.ensures))

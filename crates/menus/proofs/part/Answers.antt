@@ -5,7 +5,7 @@ use mathlib.Core.List.{[]}
 use Rattle.std.proofs.Common.{ℕ, ◌+◌, ap, drop}
 use Rattle.std.proofs.lemmas.List.{take_rest}
 use Rattle.octets.specs.Lists.{until_category}
-use Rattle.menus.proofs.Looking.{extensions_before, part_here, part_not, part_past, start_here, start_none, stands_onward}
+use Rattle.menus.proofs.Looking.{part_here, part_not, part_past, start_here, start_none, stands_onward}
 use Rattle.menus.specs.Groups.{part_at}
 use borrow.Author.Rules.{rules}
 use Rattle.menus.proofs.part.Goals.{else-place-octets-via-then-place-octets+else-is_category, else-place-octets-via-else-place-octets}
@@ -16,7 +16,7 @@ returns-then-is_category c =
     let args = c.args in
     let is-category = sym c.is_category.ensures ∙ c.if-is_category.true in
     let behind = take_rest args.octets.now (args.place + 1) in
-    let counts : c.extensions_in.result ≡ until_category (drop (args.place + 1) args.octets.now) = c.extensions_in.ensures.0 ∙ extensions_before _ ∙ ap until_category behind in
+    let counts : c.extensions_in.result ≡ until_category (drop (args.place + 1) args.octets.now) = c.extensions_in.ensures.0 ∙ ap until_category behind in
     record { result_value = part_here args.octets.now args.place (search rules) is-category (args.place + 1 + c.extensions_in.result) (ap (λ (n : ℕ). args.place + 1 + n) counts); ref_ptr_value = stands_onward args.octets.ref_ptr args.place _ (start_here args.octets.now args.place (search rules) is-category) }
 
 pub returns : goal.returns

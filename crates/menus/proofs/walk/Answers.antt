@@ -33,4 +33,4 @@ pub returns : goal.returns
 returns c =
     let args = c.args in
     let all : c.loop-looked.looked ≡ length args.octets.now = omega arith in
-    c.not_offered.ensures ∙ sym (c.loop-looked.invariant ∙ walked_end args.place args.octets.now c.loop-looked.looked (omega arith) ∙ ap (λ (looked : ℕ). answer false looked) all)
+    c.answered.ensures ∙ sym (c.loop-looked.invariant ∙ walked_end args.place args.octets.now c.loop-looked.looked (omega arith) ∙ ap (λ (looked : ℕ). answer false looked) all)
