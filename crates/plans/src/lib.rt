@@ -22,7 +22,7 @@ ghost use Rattle.laws.specs.Front.{front};
 ghost use Rattle.printing.specs.Page.{typed};
 ghost use Rattle.plans.specs.Text.{ends_word, word_length, with_digit, number, hex_value, octet, lines_before, word_at};
 ghost use Rattle.plans.specs.Reading.{mistaken, going, place, set_at, store, added, say, first_of, is_said, begin_named, behind_name, lacks_call, planning, cadenced, answering, all_said, nothing_yet, part_word, name_word, is_on, is_answer, at_number, at_octets, number_word, listed, one_of, read_word, modes_of, record_of, record_mistake, with_home, finish_end, finish_line, between, scan_after, begins_word, read_byte, fresh, finished, read_text, bit_place, marked_bit, marked, octet_at, octets_in, call_not_had, default_on, default_off, default_answer};
-ghost use Rattle.plans.specs.Plain.{function_text, functions_text, wants_text, end_text, entry_front, octets_text, bits_text, damage_text, decimal, caller_text, called_text, head_text, cadence_text, plain};
+ghost use Rattle.plans.specs.Plain.{function_text, functions_text, wants_text, end_text, entry_front, octets_text, bits_text, damage_text, decimal, caller_text, called_text, head_text, cadence_text, answers_text, plain};
 ghost use Rattle.plans.specs.Inner.{told_text, lacking};
 ghost use Rattle.cadence.specs.Cadence.{is_cadence};
 ghost use Rattle.steps.specs.Session.{default_te};
@@ -624,7 +624,9 @@ fn at_octets(r: Reading) -> bool
     r.context == FIRST_OCTET || r.context == OCTETS
 }
 
-// A word: the number, the octet or the name that is asked for, or a mistake.
+// A word: the number, the octet or the name that is asked for, or a mistake. It stays a call of its own, since most bytes do nothing: where
+// the compiler puts it into the loops, a text of comments or of blanks takes more than one and a half times the instructions.
+#[inline(never)]
 fn read_word(r: Reading, word: &[u8]) -> Reading
     ensures { result ≡ read_word r word.now }
 {
@@ -732,31 +734,28 @@ fn finish_line(r: Reading) -> Reading
     }
 }
 
-// What a byte of a text does: the end of a line, a word, or nothing.
-fn read_byte(spot: Spot, text: &[u8], i: usize) -> Reading
+// What a byte of a text does to what was read: the end of a line, a word, or nothing. It is lent, since most bytes do nothing: where each byte
+// made another of it, a text of comments took more than twice as long.
+fn read_byte(r: &mut Reading, scan: Scan, text: &[u8], i: usize)
     requires { i < length text.now }
-    ensures { result ≡ read_byte spot.r spot.scan (slice_index text.now i) (drop (i + 1) text.now) }
+    ensures { r.new ≡ read_byte r.old scan (slice_index text.now i) (drop (i + 1) text.now) }
 {
     let b = text[i];
     if b == LINE_FEED {
-        return finish_line(spot.r);
+        *r = finish_line(*r);
+    } else if begins_word(scan, b) {
+        *r = read_word(*r, word_at(text, i));
     }
-    if begins_word(spot.scan, b) {
-        return read_word(spot.r, word_at(text, i));
-    }
-    spot.r
 }
 
 // The text read up to the next byte.
-fn step(spot: Spot, text: &[u8], i: usize) -> Spot
+fn step(spot: &mut Spot, text: &[u8], i: usize)
     requires { i < length text.now }
-    ensures r { result.r ≡ read_byte spot.r spot.scan (slice_index text.now i) (drop (i + 1) text.now) }
-    ensures scan { result.scan ≡ scan_after spot.scan (slice_index text.now i) }
+    ensures r { spot.new.r ≡ read_byte spot.old.r spot.old.scan (slice_index text.now i) (drop (i + 1) text.now) }
+    ensures scan { spot.new.scan ≡ scan_after spot.old.scan (slice_index text.now i) }
 {
-    Spot {
-        r: read_byte(spot, text, i),
-        scan: scan_after(spot.scan, text[i]),
-    }
+    read_byte(&mut spot.r, spot.scan, text, i);
+    spot.scan = scan_after(spot.scan, text[i]);
 }
 
 // A text of which nothing is read.
@@ -834,7 +833,7 @@ pub fn read(text: &[u8]) -> Result<Plan, Mistake>
 {
     let mut spot = begin();
     for i in 0..text.len() {
-        spot = step(spot, text, i);
+        step(&mut spot, text, i);
         if let Some(what) = spot.r.what {
             return Err(Mistake { what, at: i });
         }
@@ -863,9 +862,9 @@ fn begins_entry(scan: Scan, b: u8, context: u8, first: u8, further: u8) -> bool
 }
 
 // The octet that stands at a byte of a text, in the line of an end or in one that is about none, where one does.
-fn octet_at(end: u8, spot: Spot, text: &[u8], i: usize) -> Option<u8>
+fn octet_at(end: u8, spot: &Spot, text: &[u8], i: usize) -> Option<u8>
     requires { i < length text.now }
-    ensures { result ≡ octet_at end spot.r spot.scan (slice_index text.now i) (drop (i + 1) text.now) }
+    ensures { result ≡ octet_at end spot.now.r spot.now.scan (slice_index text.now i) (drop (i + 1) text.now) }
 {
     if spot.r.end != end {
         return None;
@@ -886,9 +885,9 @@ fn write_at(out: &mut [u8], at: usize, b: u8)
 }
 
 // Marks the damaged bit that stands at a byte of a text, where one does that has a place.
-fn mark_bit(damaged: &mut [u8], spot: Spot, text: &[u8], i: usize)
+fn mark_bit(damaged: &mut [u8], spot: &Spot, text: &[u8], i: usize)
     requires { i < length text.now }
-    ensures { damaged.new ≡ marked_bit spot.r spot.scan (slice_index text.now i) (drop (i + 1) text.now) damaged.old }
+    ensures { damaged.new ≡ marked_bit spot.now.r spot.now.scan (slice_index text.now i) (drop (i + 1) text.now) damaged.old }
 {
     if begins_entry(spot.scan, text[i], spot.r.context, FIRST_BIT, BITS) {
         if let Some(time) = number(word_at(text, i)) {
@@ -908,8 +907,8 @@ pub fn mark(text: &[u8], damaged: &mut [u8])
     }
     let mut spot = begin();
     for i in 0..text.len() {
-        mark_bit(damaged, spot, text, i);
-        spot = step(spot, text, i);
+        mark_bit(damaged, &spot, text, i);
+        step(&mut spot, text, i);
     }
 }
 
@@ -925,11 +924,11 @@ pub fn put_octets_of(text: &[u8], end: u8, out: &mut [u8]) -> usize
     let mut spot = begin();
     let mut n: usize = 0;
     for i in 0..text.len() {
-        if let Some(b) = octet_at(end, spot, text, i) {
+        if let Some(b) = octet_at(end, &spot, text, i) {
             write_at(out, n, b);
             n += 1;
         }
-        spot = step(spot, text, i);
+        step(&mut spot, text, i);
     }
     n
 }
@@ -1073,6 +1072,13 @@ fn put_cadence(page: &mut Page<'_>, on: u8, off: u16)
     put_number(page, b" ", off);
 }
 
+// The line for the answer.
+fn put_answers(page: &mut Page<'_>, answers: u16)
+    ensures { page.new ≡ typed page.old (answers_text answers) }
+{
+    put_number(page, b"\nanswers   ", answers);
+}
+
 // All that a plan says beside the blocks and the damaged bits.
 fn put_told(page: &mut Page<'_>, plan: Plan, cm: &[u8])
     ensures { page.new ≡ typed page.old (told_text plan cm.now) }
@@ -1080,7 +1086,7 @@ fn put_told(page: &mut Page<'_>, plan: Plan, cm: &[u8])
     put_head(page, plan, cm);
     put_number(page, b"\nTe        ", plan.te);
     put_cadence(page, plan.on, plan.off);
-    put_number(page, b"\nanswers   ", plan.answers);
+    put_answers(page, plan.answers);
 }
 
 // The damaged bits of both ends, where the list has a place for each.

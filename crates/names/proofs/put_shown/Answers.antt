@@ -1,4 +1,5 @@
--- `names::put_shown` meets its contract: a name that is shown is typed behind a blank, and any other is left out.
+-- `names::put_shown` meets its contract: a name that is shown is typed behind a blank, and any other is left out. On which page the next step
+-- types is searched for and not named, so that a program that sets the place is judged by the place that it sets.
 -- Assumes nothing.
 use Rattle.std.proofs.Common.{[], ◌∷◌, sym, ap, rules, ◌+◌, drop, ◌∙◌}
 use Rattle.printing.specs.Page.{Page, typed}
@@ -16,11 +17,11 @@ loop-name-preserved c =
     let onward = λ (p : Page). typed p (names_of args.kind args.set (entries lent (drop (i + 1) args.names.now))) in
     elim c.if-shown.branch [
       | then-shown w ↦
-          ap onward (w.page-is ∙ typed_then c.loop-name.page (32 ∷ []) _ w.put_text.ensures w.put_text-then-shown.ensures)
+          ap onward (w.page-is ∙ typed_then c.loop-name.page (32 ∷ []) _ (search rules) w.put_text-then-shown.ensures)
           ∙ sym (shown_on lent args.names.now i (search rules) _ c.loop-name.page args.kind args.set (sym c.shown.ensures ∙ w.if-shown.true))
           ∙ c.loop-name.invariant
       | else-shown w ↦
-          ap onward w.page-is
+          ap onward (w.page-is ∙ search rules)
           ∙ sym (left_out lent args.names.now i (search rules) _ c.loop-name.page args.kind args.set (sym c.shown.ensures ∙ w.if-shown.false))
           ∙ c.loop-name.invariant
     ]

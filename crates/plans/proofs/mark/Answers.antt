@@ -17,8 +17,8 @@ loop-i-init c = ap (λ (spot : Spot). marked_from spot.r spot.scan c.args.text.n
 pub loop-i-preserved : goal.loop-i-preserved
 loop-i-preserved c =
     let spot = c.loop-i.spot in
-    let next = c.step-spot in
-    marked_on c.args.text.now c.loop-i.i c.loop-i-test.true spot.r spot.scan next.result.r next.ensures.r next.result.scan c.loop-i.damaged c.mark_bit.new.damaged next.ensures.scan c.mark_bit.ensures
+    let next = c.step in
+    marked_on c.args.text.now c.loop-i.i c.loop-i-test.true spot.r spot.scan next.new.spot.r next.ensures.r next.new.spot.scan c.loop-i.damaged c.mark_bit.new.damaged next.ensures.scan c.mark_bit.ensures
     ∙ c.loop-i.invariant
 
 pub returns : goal.returns

@@ -34,8 +34,8 @@ loop-i-preserved c =
     let text = c.args.text.now in
     let i = c.loop-i.i in
     let more = c.loop-i-test.true in
-    let rest = octets_from c.args.end c.step-spot.result.r c.step-spot.result.scan (drop (i + 1) text) in
-    let on = octets_on text i more c.loop-i.spot.r c.loop-i.spot.scan c.step-spot.result.r c.step-spot.ensures.r c.args.end c.step-spot.result.scan c.octet_at.result c.step-spot.ensures.scan c.octet_at.ensures in
+    let rest = octets_from c.args.end c.step.new.spot.r c.step.new.spot.scan (drop (i + 1) text) in
+    let on = octets_on text i more c.loop-i.spot.r c.loop-i.spot.scan c.step.new.spot.r c.step.ensures.r c.args.end c.step.new.spot.scan c.octet_at.result c.step.ensures.scan c.octet_at.ensures in
     let same = c.match-octet_at.auto.out ∙ c.loop-i.invariant.2 in
     elim c.match-octet_at.branch [
       | in-Some w ↦ (

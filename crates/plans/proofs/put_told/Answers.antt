@@ -7,4 +7,4 @@ use Rattle.plans.proofs.put_told.Goals as goal
 pub returns : goal.returns
 unfolding bytes
 returns c =
-    typed_then _ _ _ (typed_then _ _ _ (typed_then _ _ _ c.put_head.ensures c.put_number.ensures) c.put_cadence.ensures) c.put_number-2.ensures
+    typed_then _ _ _ (typed_then _ _ _ (typed_then _ _ _ c.put_head.ensures c.put_number.ensures) c.put_cadence.ensures) c.put_answers.ensures

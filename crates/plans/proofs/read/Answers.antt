@@ -12,13 +12,13 @@ loop-i-init c = ap (λ (spot : Spot). read_from spot.r spot.scan 0 c.args.text.n
 pub returns-in-Some : goal.returns-in-Some
 returns-in-Some c =
     let spot = c.loop-i.spot in
-    sym (read_stop c.args.text.now c.loop-i.i c.loop-i-test.true spot.r spot.scan c.step-spot.result.r c.step-spot.ensures.r c.in-Some.what c.in-Some.is) ∙ c.loop-i.invariant
+    sym (read_stop c.args.text.now c.loop-i.i c.loop-i-test.true spot.r spot.scan c.step.new.spot.r c.step.ensures.r c.in-Some.what c.in-Some.is) ∙ c.loop-i.invariant
 
 pub loop-i-preserved : goal.loop-i-preserved
 loop-i-preserved c =
     let spot = c.loop-i.spot in
-    let next = c.step-spot in
-    read_on c.args.text.now c.loop-i.i c.loop-i-test.true spot.r spot.scan next.result.r next.ensures.r next.result.scan next.ensures.scan c.in_default.is ∙ c.loop-i.invariant
+    let next = c.step in
+    read_on c.args.text.now c.loop-i.i c.loop-i-test.true spot.r spot.scan next.new.spot.r next.ensures.r next.new.spot.scan next.ensures.scan c.in_default.is ∙ c.loop-i.invariant
 
 pub returns : goal.returns
 returns c =

@@ -8,16 +8,16 @@ use Rattle.plans.proofs.read_byte.Goals as goal
 pub returns-then-b-eq-LINE_FEED : goal.returns-then-b-eq-LINE_FEED
 returns-then-b-eq-LINE_FEED c =
     let args = c.args in
-    c.finish_line.ensures ∙ sym (byte_ends args.text.now args.i c.requires args.spot.r args.spot.scan c.if-b-eq-LINE_FEED.true)
+    c.finish_line.ensures ∙ sym (byte_ends args.text.now args.i c.requires args.r.now args.scan c.if-b-eq-LINE_FEED.true)
 
 pub returns-then-begins_word : goal.returns-then-begins_word
 returns-then-begins_word c =
     let args = c.args in
     c.read_word.ensures
-    ∙ ap (read_word args.spot.r) c.word_at.ensures
-    ∙ sym (byte_reads args.text.now args.i c.requires args.spot.r args.spot.scan c.if-b-eq-LINE_FEED.false (sym c.begins_word.ensures ∙ c.if-begins_word.true))
+    ∙ ap (read_word args.r.now) c.word_at.ensures
+    ∙ sym (byte_reads args.text.now args.i c.requires args.r.now args.scan c.if-b-eq-LINE_FEED.false (sym c.begins_word.ensures ∙ c.if-begins_word.true))
 
-pub returns : goal.returns
-returns c =
+pub returns-else-begins_word : goal.returns-else-begins_word
+returns-else-begins_word c =
     let args = c.args in
-    sym (byte_passes args.text.now args.i c.requires args.spot.r args.spot.scan c.if-b-eq-LINE_FEED.false (sym c.begins_word.ensures ∙ c.if-begins_word.false))
+    sym (byte_passes args.text.now args.i c.requires args.r.now args.scan c.if-b-eq-LINE_FEED.false (sym c.begins_word.ensures ∙ c.if-begins_word.false))
