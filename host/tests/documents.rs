@@ -138,6 +138,15 @@ fn calls_or_hands_on(source: &str) -> BTreeMap<String, BTreeSet<String>> {
     found
 }
 
+#[test]
+fn a_function_that_is_handed_on_is_one_that_is_called() {
+    let source = "fn first(x: u8) {\n    each(x, second);\n}\n\nfn second(x: u8) {\n    third(x);\n}\n\nfn third(x: u8) {\n}\n";
+    let first = BTreeSet::from(["first".to_string()]);
+    let all = ["first", "second", "third"].map(str::to_string);
+    assert_eq!(reached(&first, &calls(source)), first);
+    assert_eq!(reached(&first, &calls_or_hands_on(source)), BTreeSet::from(all));
+}
+
 /// These functions, and all that they lead to.
 fn reached(first: &BTreeSet<String>, calls: &BTreeMap<String, BTreeSet<String>>) -> BTreeSet<String> {
     let mut reached = first.clone();
@@ -540,12 +549,19 @@ fn the_pages_name_the_kit_that_is_kept() {
     assert!(verdict.contains(&format!(" sum={sum} ")), "the verdict in docs/TRUST.md is of another logic than {sum}");
 }
 
+/// What a source brings in from proofs; what an `impl` brings in stands further right.
+fn proofs_cited(source: &str) -> Vec<&str> {
+    source.lines().map(str::trim_start).filter(|line| line.starts_with("ghost use") && line.contains(".proofs.")).collect()
+}
+
 /// What a promise says can be read in definitions alone.
 #[test]
 fn no_promise_of_the_library_cites_a_proof() {
+    let within_an_impl = "impl Model for Page {\n    ghost use Rattle.printing.proofs.Pages.{Within};\n}\n";
+    assert_eq!(proofs_cited(within_an_impl).len(), 1, "a proof that an impl cites is seen");
     for krate in crates().iter().filter(|krate| !PROGRAMS.contains(&krate.as_str())) {
         let source = read(&root().join("crates").join(krate).join("src/lib.rt"));
-        let cited: Vec<&str> = source.lines().filter(|line| line.trim_start().starts_with("ghost use") && line.contains(".proofs.")).collect();
+        let cited = proofs_cited(&source);
         assert!(cited.is_empty(), "{krate} cites {cited:?}");
     }
 }

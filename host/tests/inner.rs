@@ -107,21 +107,27 @@ fn definitions() -> BTreeMap<Name, BTreeSet<Name>> {
     all
 }
 
-/// What the promises of the public functions and methods and of conversions name, and what the theorems of demands say.
+/// What the promises of the public functions and methods of a source and of its conversions name.
+fn promised(source: &str) -> BTreeSet<Name> {
+    let scope = scope(source);
+    let mut found = BTreeSet::new();
+    let mut public = false;
+    for line in source.lines().map(str::trim_start) {
+        if line.starts_with("fn ") || line.starts_with("pub fn ") || line.starts_with("pub extern ") {
+            public = line.starts_with("pub ");
+        }
+        if public && line.starts_with("ensures") || line.starts_with("ghost from_gives") {
+            found.extend(words(line).filter_map(|word| meant(word, &scope)));
+        }
+    }
+    found
+}
+
+/// What the promises of all crates name, and what the theorems of demands say.
 fn believed(all: &BTreeMap<Name, BTreeSet<Name>>) -> BTreeSet<Name> {
     let mut found: BTreeSet<Name> = all.keys().filter(|(krate, _, _)| krate == "demands").cloned().collect();
     for krate in crates().iter().filter(|krate| !PROGRAMS.contains(&krate.as_str())) {
-        let text = read(&root().join("crates").join(krate).join("src/lib.rt"));
-        let scope = scope(&text);
-        let mut public = false;
-        for line in text.lines().map(str::trim_start) {
-            if line.starts_with("fn ") || line.starts_with("pub fn ") || line.starts_with("pub extern ") {
-                public = line.starts_with("pub ");
-            }
-            if public && line.starts_with("ensures") || line.starts_with("ghost from_gives") {
-                found.extend(words(line).filter_map(|word| meant(word, &scope)));
-            }
-        }
+        found.extend(promised(&read(&root().join("crates").join(krate).join("src/lib.rt"))));
     }
     found
 }
@@ -155,6 +161,32 @@ fn tied() -> BTreeSet<Name> {
         }
     }
     found
+}
+
+/// A conversion promises what it gives in its `impl`, and a private function promises nothing that is believed.
+#[test]
+fn what_a_conversion_gives_is_promised_and_what_a_private_function_does_is_not() {
+    let source = "\
+ghost use Rattle.octets.specs.Octets.{is_bad, is_tag};
+
+impl From<Refusal> for u8 {
+    ghost use Rattle.refusals.specs.Refusals.{number};
+
+    ghost from_gives = { λ r n. n ≡ number r };
+}
+
+pub fn outer(b: u8) -> bool
+    ensures { result ≡ is_bad b }
+{
+}
+
+fn inner(b: u8) -> bool
+    ensures { result ≡ is_tag b }
+{
+}
+";
+    let name = |krate: &str, module: &str, name: &str| (krate.to_string(), module.to_string(), name.to_string());
+    assert_eq!(promised(source), BTreeSet::from([name("refusals", "Refusals", "number"), name("octets", "Octets", "is_bad")]));
 }
 
 #[test]
